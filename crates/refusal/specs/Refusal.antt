@@ -1,0 +1,41 @@
+-- The paper's number of each refusal, and the place that it names.
+use mathlib.Core.Bool.{Bool}
+use Prim.Native.Nat.{ℕ}
+use lib.Dec.{eqb}
+use Rattle.word.specs.Choice.{pick}
+use Rattle.refusal.specs.declared.Refusal.{Refusal}
+use Rattle.refusal.specs.declared.Refusal.the-variants.{Nothing, HasherForm, TableLength, MaskNumber, TestStep, DmRule, MaskCount, MessageLength, Size, SheetLength}
+
+-- the number in the table of 01; 0 where nothing is refused
+abbrev pub numberOf : Refusal → ℕ
+numberOf Nothing = 0
+numberOf HasherForm = 1
+numberOf TableLength = 2
+numberOf (MaskNumber i) = 3
+numberOf (TestStep i) = 4
+numberOf (DmRule i) = 5
+numberOf MaskCount = 6
+numberOf MessageLength = 7
+numberOf Size = 8
+numberOf SheetLength = 9
+
+-- the place, from 0, of the record that decides; 0 for the other numbers
+abbrev pub placeOf : Refusal → ℕ
+placeOf Nothing = 0
+placeOf HasherForm = 0
+placeOf TableLength = 0
+placeOf (MaskNumber i) = i
+placeOf (TestStep i) = i
+placeOf (DmRule i) = i
+placeOf MaskCount = 0
+placeOf MessageLength = 0
+placeOf Size = 0
+placeOf SheetLength = 0
+
+-- whether nothing is refused
+abbrev pub isNothing : Refusal → Bool
+isNothing r = eqb (numberOf r) 0
+
+-- the first refusal of two, the second only where the first is none
+abbrev pub firstOf : Refusal → Refusal → Refusal
+firstOf r s = pick (isNothing r) s r

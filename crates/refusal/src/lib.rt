@@ -1,0 +1,67 @@
+// What a call can refuse, one case for each number of the paper's table.
+ghost use mathlib.Core.Path.{_≡_};
+ghost use Rattle.refusal.specs.Refusal.{numberOf, placeOf, isNothing};
+
+pub enum Refusal {
+    Nothing,
+    // 1: the hasher is not well formed.
+    HasherForm,
+    // 2: the table is empty, too long or no whole number of records.
+    TableLength,
+    // 3, 4 and 5, each with the place of the first bad record: its mask number, its test step, or its
+    // difference words, which break the schedule's rule.
+    MaskNumber(usize),
+    TestStep(usize),
+    DmRule(usize),
+    // 6: not one mask for each block.
+    MaskCount,
+    // 7: the message would pass 2^61 - 1 bytes.
+    MessageLength,
+    // 8: a block, an output or a barcode of another size.
+    Size,
+    // 9: the sheet is no whole number of records.
+    SheetLength,
+}
+
+// The paper's number, 0 where nothing is refused.
+pub fn number(r: Refusal) -> u32
+    ensures { λ n. ⌜ n ≡ numberOf r ⌝ }
+{
+    match r {
+        Refusal::Nothing => 0,
+        Refusal::HasherForm => 1,
+        Refusal::TableLength => 2,
+        Refusal::MaskNumber(_) => 3,
+        Refusal::TestStep(_) => 4,
+        Refusal::DmRule(_) => 5,
+        Refusal::MaskCount => 6,
+        Refusal::MessageLength => 7,
+        Refusal::Size => 8,
+        Refusal::SheetLength => 9,
+    }
+}
+
+// The place of the record that decides, 0 for the numbers that name none.
+pub fn place(r: Refusal) -> usize
+    ensures { λ i. ⌜ i ≡ placeOf r ⌝ }
+{
+    match r {
+        Refusal::MaskNumber(i) => i,
+        Refusal::TestStep(i) => i,
+        Refusal::DmRule(i) => i,
+        Refusal::Nothing => 0,
+        Refusal::HasherForm => 0,
+        Refusal::TableLength => 0,
+        Refusal::MaskCount => 0,
+        Refusal::MessageLength => 0,
+        Refusal::Size => 0,
+        Refusal::SheetLength => 0,
+    }
+}
+
+// Whether nothing is refused.
+pub fn is_nothing(r: Refusal) -> bool
+    ensures { λ b. ⌜ b ≡ isNothing r ⌝ }
+{
+    number(r) == 0
+}

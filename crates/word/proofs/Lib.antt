@@ -1,0 +1,5 @@
+pub mod Digits
+pub mod Rotate
+pub mod Rounds
+pub mod Sums
+pub mod Xor

@@ -1,7 +1,8 @@
 -- A step of SHA-1, forward and back: FIPS 180-4, sections 4.1.1, 4.2.1 and 6.1.2, step 3.
-use mathlib.Core.List.{List}
+use mathlib.Core.Bool.{Bool, _&&_}
+use mathlib.Core.List.{List, [], _∷_}
 use Prim.Native.Nat.{ℕ, zero, suc, _+_, _^_, _<_}
-use lib.Dec.{ltb}
+use lib.Dec.{ltb, eqb}
 use lib.ListN.{getD}
 use Rattle.word.specs.Choice.{pick}
 use Rattle.word.specs.Word.{rotl, _⊞_, _⊟_, Ch, Parity, Maj}
@@ -62,3 +63,19 @@ pub record Words (s : Regs) : Type 0 where
   pub c-lt : s .c < 2 ^ 32
   pub d-lt : s .d < 2 ^ 32
   pub e-lt : s .e < 2 ^ 32
+
+-- five words in a list as registers
+abbrev pub regsOf : List ℕ → Regs
+regsOf h = record { a = getD h 0 0; b = getD h 1 0; c = getD h 2 0; d = getD h 3 0; e = getD h 4 0 }
+
+-- the registers as a list of five words
+abbrev pub fiveOf : Regs → List ℕ
+fiveOf s = s .a ∷ s .b ∷ s .c ∷ s .d ∷ s .e ∷ []
+
+-- word by word, the sum that wraps
+abbrev pub addRegs : Regs → Regs → Regs
+addRegs s r = record { a = s .a ⊞ r .a; b = s .b ⊞ r .b; c = s .c ⊞ r .c; d = s .d ⊞ r .d; e = s .e ⊞ r .e }
+
+-- whether the five words of both are the same
+abbrev pub sameRegs : Regs → Regs → Bool
+sameRegs s r = eqb (s .a) (r .a) && (eqb (s .b) (r .b) && (eqb (s .c) (r .c) && (eqb (s .d) (r .d) && eqb (s .e) (r .e))))

@@ -1,7 +1,7 @@
 // One step of SHA-1, forward and back, and runs of steps over a schedule.
 ghost use mathlib.Core.Path.{_≡_};
 ghost use Prim.Native.Nat.{_-_, _≤_};
-ghost use Rattle.step.specs.Step.{stepWith, undoWith, stepAt, undoAt, stepsOf, undosOf};
+ghost use Rattle.step.specs.Step.{stepWith, undoWith, stepAt, undoAt, stepsOf, undosOf, regsOf, fiveOf, addRegs, sameRegs};
 use word::add;
 use word::f1;
 use word::f2;
@@ -17,6 +17,58 @@ pub struct Regs {
     pub c: u32,
     pub d: u32,
     pub e: u32,
+}
+
+// Five chaining words as registers.
+pub fn regs_of(h: [u32; 5]) -> Regs
+    ensures { λ r. ⌜ r ≡ regsOf h ⌝ }
+{
+    Regs {
+        a: h[0],
+        b: h[1],
+        c: h[2],
+        d: h[3],
+        e: h[4],
+    }
+}
+
+// The registers as five chaining words.
+pub fn five_of(s: Regs) -> [u32; 5]
+    ensures { λ r. ⌜ r ≡ fiveOf s ⌝ }
+{
+    [s.a, s.b, s.c, s.d, s.e]
+}
+
+// The sum that wraps, word by word.
+pub fn add_regs(s: Regs, r: Regs) -> Regs
+    ensures { λ q. ⌜ q ≡ addRegs s r ⌝ }
+{
+    Regs {
+        a: add(s.a, r.a),
+        b: add(s.b, r.b),
+        c: add(s.c, r.c),
+        d: add(s.d, r.d),
+        e: add(s.e, r.e),
+    }
+}
+
+// Whether all five words are the same.
+pub fn same_regs(s: Regs, r: Regs) -> bool
+    ensures { λ q. ⌜ q ≡ sameRegs s r ⌝ }
+{
+    if s.a != r.a {
+        return false;
+    }
+    if s.b != r.b {
+        return false;
+    }
+    if s.c != r.c {
+        return false;
+    }
+    if s.d != r.d {
+        return false;
+    }
+    s.e == r.e
 }
 
 // One step, where f is what the round function gives.

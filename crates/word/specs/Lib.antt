@@ -1,3 +1,4 @@
 pub mod Choice
 pub mod Word
 pub mod Rule
+pub mod Lists

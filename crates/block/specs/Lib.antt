@@ -1,0 +1,4 @@
+pub mod Schedule
+pub mod Compress
+pub mod Sibling
+pub mod Stage

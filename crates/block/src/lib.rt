@@ -1,0 +1,165 @@
+// The compression of one block: plain, with the two states that detection needs, and of a sibling from such a state.
+ghost use mathlib.Core.Path.{_≡_};
+ghost use Prim.Native.Nat.{_-_, _<_, _≤_};
+ghost use lib.ListN.{length};
+ghost use Rattle.word.specs.Rule.{ruleAt};
+ghost use Rattle.step.specs.Step.{stepsOf};
+ghost use Rattle.block.specs.Schedule.{wordAt, wordsOf, scheduleOf};
+ghost use Rattle.block.specs.Compress.{overSchedule, compressOf, statesOf};
+ghost use Rattle.block.specs.Sibling.{siblingOf, recompressed};
+ghost use Rattle.block.specs.Stage.{written, Stage};
+use step::Regs;
+use step::add_regs;
+use step::step;
+use step::steps;
+use step::undos;
+use word::be_word;
+use word::mix;
+
+// What one compression leaves for detection, all in the order of FIPS 180-4.
+pub struct States {
+    // After steps 0 to 57.
+    pub s58: Regs,
+    // After steps 0 to 64.
+    pub s65: Regs,
+    // The chaining words.
+    pub out: Regs,
+}
+
+// Where a compression started and where it ended.
+pub struct Ends {
+    pub start: Regs,
+    pub out: Regs,
+}
+
+// Word i of a block.
+fn word_at(block: &[u8], i: usize) -> u32
+    requires { ⌜ (length (now block) ≡ 64) × (i < 16) ⌝ }
+    ensures { λ r. ⌜ r ≡ wordAt (now (block .entry)) i ⌝ }
+{
+    let at = 4 * i;
+    be_word(block[at], block[at + 1], block[at + 2], block[at + 3])
+}
+
+// Words from..to of the schedule read from the block, each stepped as soon as it is there: a schedule filled
+// beforehand costs half as much time again.
+fn begin(from: usize, to: usize, start: Regs, w: &mut [u32; 80], block: &[u8]) -> Regs
+    requires { ⌜ (from ≤ to) × (to ≤ 16) × (length (now block) ≡ 64) ⌝ }
+    ensures { λ r. ⌜ (now (w .exit) ≡ written (λ v t. wordAt (now (block .entry)) t) (now (w .entry)) from (to - from)) × (r ≡ stepsOf (now (w .exit)) from (to - from) start) ⌝ }
+{
+    let mut s = start;
+    for t in from..to {
+        w[t] = word_at(block, t);
+        s = step(t, s, w[t]);
+    }
+    s
+}
+
+// Words from..to of the schedule made by the rule, each stepped as soon as it is there. Runs of ten unroll; longer
+// ones do not.
+fn run(from: usize, to: usize, start: Regs, w: &mut [u32; 80]) -> Regs
+    requires { ⌜ (16 ≤ from) × (from ≤ to) × (to ≤ 80) ⌝ }
+    ensures { λ r. ⌜ (now (w .exit) ≡ written ruleAt (now (w .entry)) from (to - from)) × (r ≡ stepsOf (now (w .exit)) from (to - from) start) ⌝ }
+{
+    let mut s = start;
+    for t in from..to {
+        w[t] = mix(w[t - 3], w[t - 8], w[t - 14], w[t - 16]);
+        s = step(t, s, w[t]);
+    }
+    s
+}
+
+// Steps 0 to 39, which both compressions begin with.
+fn first_forty(h: Regs, block: &[u8], w: &mut [u32; 80]) -> Regs
+    requires { ⌜ length (now block) ≡ 64 ⌝ }
+    ensures { λ r. ⌜ Stage (wordsOf (now (block .entry))) h 40 (now (w .exit)) r ⌝ }
+{
+    let s8 = begin(0, 8, h, w, block);
+    let s16 = begin(8, 16, s8, w, block);
+    let s20 = run(16, 20, s16, w);
+    let s30 = run(20, 30, s20, w);
+    run(30, 40, s30, w)
+}
+
+// The chaining words after a block, for detection off.
+pub fn compression_plain(h: Regs, block: &[u8]) -> Regs
+    requires { ⌜ length (now block) ≡ 64 ⌝ }
+    ensures { λ r. ⌜ r ≡ compressOf h (now (block .entry)) ⌝ }
+{
+    let mut w = [0u32; 80];
+    let s40 = first_forty(h, block, &mut w);
+    let s50 = run(40, 50, s40, &mut w);
+    let s60 = run(50, 60, s50, &mut w);
+    let s70 = run(60, 70, s60, &mut w);
+    let s80 = run(70, 80, s70, &mut w);
+    add_regs(h, s80)
+}
+
+// The chaining words after a block with the states 58 and 65, and the block's schedule written to w.
+pub fn compression_states(h: Regs, block: &[u8], w: &mut [u32; 80]) -> States
+    requires { ⌜ length (now block) ≡ 64 ⌝ }
+    ensures { λ r. ⌜ (now (w .exit) ≡ scheduleOf (wordsOf (now (block .entry)))) × (r ≡ statesOf h (scheduleOf (wordsOf (now (block .entry))))) ⌝ }
+{
+    let s40 = first_forty(h, block, w);
+    let s50 = run(40, 50, s40, w);
+    let s58 = run(50, 58, s50, w);
+    let s60 = run(58, 60, s58, w);
+    let s65 = run(60, 65, s60, w);
+    let s75 = run(65, 75, s65, w);
+    let s80 = run(75, 80, s75, w);
+    States {
+        s58,
+        s65,
+        out: add_regs(h, s80),
+    }
+}
+
+// The chaining words after eighty steps over a schedule that is there already.
+pub fn compression_w(h: Regs, w: &[u32; 80]) -> Regs
+    ensures { λ r. ⌜ r ≡ overSchedule h (now (w .entry)) ⌝ }
+{
+    let s20 = steps(0, 20, h, w);
+    let s40 = steps(20, 40, s20, w);
+    let s60 = steps(40, 60, s40, w);
+    add_regs(h, steps(60, 80, s60, w))
+}
+
+// The sibling's schedule, for a vector's difference words dm.
+pub fn sibling(w: &[u32; 80], dm: &[u32]) -> [u32; 80]
+    requires { ⌜ length (now dm) ≡ 80 ⌝ }
+    ensures { λ r. ⌜ r ≡ siblingOf (now (w .entry)) (now (dm .entry)) ⌝ }
+{
+    let mut v = [0u32; 80];
+    for t in 0..80 {
+        v[t] = w[t] ^ dm[t];
+    }
+    v
+}
+
+// The compression over the schedule w that has the state s after steps 0 to 57.
+pub fn recompress_fast_58(w: &[u32; 80], s: Regs) -> Ends
+    ensures { λ r. ⌜ r ≡ recompressed (now (w .entry)) 58 s ⌝ }
+{
+    let s40 = undos(40, 58, s, w);
+    let s20 = undos(20, 40, s40, w);
+    let start = undos(0, 20, s20, w);
+    let s60 = steps(58, 60, s, w);
+    Ends {
+        start,
+        out: add_regs(start, steps(60, 80, s60, w)),
+    }
+}
+
+// The compression over the schedule w that has the state s after steps 0 to 64.
+pub fn recompress_fast_65(w: &[u32; 80], s: Regs) -> Ends
+    ensures { λ r. ⌜ r ≡ recompressed (now (w .entry)) 65 s ⌝ }
+{
+    let s60 = undos(60, 65, s, w);
+    let s40 = undos(40, 60, s60, w);
+    let s20 = undos(20, 40, s40, w);
+    let start = undos(0, 20, s20, w);
+    Ends {
+        start,
+        out: add_regs(start, steps(65, 80, s, w)),
+    }
+}

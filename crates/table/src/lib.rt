@@ -1,0 +1,106 @@
+// The check of a lent table of vectors. A record is 82 words: the mask number, the test step, and the 80 words by
+// which a sibling's schedule differs.
+ghost use mathlib.Core.Path.{_≡_};
+ghost use mathlib.Core.Bool.{_||_};
+ghost use Prim.Native.Nat.{_+_, _*_, _≤_};
+ghost use lib.Dec.{eqb};
+ghost use lib.ListN.{length};
+ghost use Rattle.table.specs.Limits.{dmWords, recordWords};
+ghost use Rattle.table.specs.Table.{testtOf, obeys, recordFault, wholeRecords, tableFault};
+use refusal::Refusal;
+use refusal::is_nothing;
+use word::mix;
+
+// Words in a record, its difference words, records in a table at most, and bits in a mask.
+pub const RECORD_WORDS: usize = 82;
+
+pub const DM_WORDS: usize = 80;
+
+pub const MOST_RECORDS: usize = 32;
+
+pub const MASK_BITS: u32 = 32;
+
+// The step at which a sibling is compared with the block.
+pub enum Testt {
+    T58,
+    T65,
+}
+
+// The test step that a record's word 1 names.
+pub fn test_step(x: u32) -> Testt
+    ensures { λ r. ⌜ r ≡ testtOf x ⌝ }
+{
+    if x == 58 { Testt::T58 } else { Testt::T65 }
+}
+
+// Whether a record's difference words obey the rule of a schedule.
+fn obeys_rule(dm: &[u32]) -> bool
+    requires { ⌜ length (now dm) ≡ dmWords ⌝ }
+    ensures { λ r. ⌜ r ≡ obeys (now (dm .entry)) ⌝ }
+{
+    for t in 16..DM_WORDS {
+        if dm[t] != mix(dm[t - 3], dm[t - 8], dm[t - 14], dm[t - 16]) {
+            return false;
+        }
+    }
+    true
+}
+
+// Whether x is one of the two test steps.
+fn known_step(x: u32) -> bool
+    ensures { λ r. ⌜ r ≡ (eqb x 58 || eqb x 65) ⌝ }
+{
+    if x == 58 {
+        return true;
+    }
+    x == 65
+}
+
+// What is wrong with record i.
+fn record_fault(table: &[u32], i: usize) -> Refusal
+    requires { ⌜ recordWords * i + recordWords ≤ length (now table) ⌝ }
+    ensures { λ r. ⌜ r ≡ recordFault (now (table .entry)) i ⌝ }
+{
+    let at = RECORD_WORDS * i;
+    if MASK_BITS <= table[at] {
+        return Refusal::MaskNumber(i);
+    }
+    if !known_step(table[at + 1]) {
+        return Refusal::TestStep(i);
+    }
+    let dm = &table[at + 2..at + RECORD_WORDS];
+    if !obeys_rule(dm) {
+        return Refusal::DmRule(i);
+    }
+    Refusal::Nothing
+}
+
+// Whether n words can be a table.
+fn whole_records(n: usize) -> bool
+    ensures { λ r. ⌜ r ≡ wholeRecords n ⌝ }
+{
+    if n == 0 {
+        return false;
+    }
+    if RECORD_WORDS * MOST_RECORDS < n {
+        return false;
+    }
+    n % RECORD_WORDS == 0
+}
+
+// What is wrong with a table: its length, or its first bad record.
+pub fn table_fault(table: &[u32]) -> Refusal
+    ensures { λ r. ⌜ r ≡ tableFault (now (table .entry)) ⌝ }
+{
+    let words = table.len();
+    if !whole_records(words) {
+        return Refusal::TableLength;
+    }
+    for i in 0..words / RECORD_WORDS {
+        let fault = record_fault(table, i);
+        if !is_nothing(fault) {
+            return fault;
+        }
+    }
+    Refusal::Nothing
+}

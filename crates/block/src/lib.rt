@@ -1,13 +1,12 @@
 // The compression of one block: plain, with the two states that detection needs, and of a sibling from such a state.
 ghost use mathlib.Core.Path.{_≡_};
-ghost use Prim.Native.Nat.{_-_, _<_, _≤_};
+ghost use mathlib.Core.List.{List};
+ghost use Prim.Native.Nat.{ℕ, _<_, _≤_};
 ghost use lib.ListN.{length};
-ghost use Rattle.word.specs.Rule.{ruleAt};
-ghost use Rattle.step.specs.Step.{stepsOf};
 ghost use Rattle.block.specs.Schedule.{wordAt, wordsOf, scheduleOf};
 ghost use Rattle.block.specs.Compress.{overSchedule, compressOf, statesOf};
 ghost use Rattle.block.specs.Sibling.{siblingOf, recompressed};
-ghost use Rattle.block.specs.Stage.{written, Stage};
+ghost use Rattle.block.specs.Stage.{Stage, Onward};
 use step::Regs;
 use step::add_regs;
 use step::step;
@@ -43,14 +42,15 @@ fn word_at(block: &[u8], i: usize) -> u32
 
 // Words from..to of the schedule read from the block, each stepped as soon as it is there: a schedule filled
 // beforehand costs half as much time again.
-fn begin(from: usize, to: usize, start: Regs, w: &mut [u32; 80], block: &[u8]) -> Regs
-    requires { ⌜ (from ≤ to) × (to ≤ 16) × (length (now block) ≡ 64) ⌝ }
-    ensures { λ r. ⌜ (now (w .exit) ≡ written (λ v t. wordAt (now (block .entry)) t) (now (w .entry)) from (to - from)) × (r ≡ stepsOf (now (w .exit)) from (to - from) start) ⌝ }
+fn begin(from: usize, to: usize, start: Regs, w: &mut [u32], block: &[u8]) -> Regs
+    requires { ⌜ (from ≤ to) × (to ≤ 16) × (length (now w) ≡ 80) × (length (now block) ≡ 64) ⌝ }
+    ensures { λ r. ⌜ Onward (wordsOf (now (block .entry))) from to (now (w .entry)) start (now (w .exit)) r ⌝ }
 {
     let mut s = start;
     for t in from..to {
-        w[t] = word_at(block, t);
-        s = step(t, s, w[t]);
+        let x = word_at(block, t);
+        w[t] = x;
+        s = step(t, s, x);
     }
     s
 }
@@ -59,12 +59,13 @@ fn begin(from: usize, to: usize, start: Regs, w: &mut [u32; 80], block: &[u8]) -
 // ones do not.
 fn run(from: usize, to: usize, start: Regs, w: &mut [u32; 80]) -> Regs
     requires { ⌜ (16 ≤ from) × (from ≤ to) × (to ≤ 80) ⌝ }
-    ensures { λ r. ⌜ (now (w .exit) ≡ written ruleAt (now (w .entry)) from (to - from)) × (r ≡ stepsOf (now (w .exit)) from (to - from) start) ⌝ }
+    ensures { λ r. ⌜ ((m : List ℕ) → Onward m from to (now (w .entry)) start (now (w .exit)) r) ⌝ }
 {
     let mut s = start;
     for t in from..to {
-        w[t] = mix(w[t - 3], w[t - 8], w[t - 14], w[t - 16]);
-        s = step(t, s, w[t]);
+        let x = mix(w[t - 3], w[t - 8], w[t - 14], w[t - 16]);
+        w[t] = x;
+        s = step(t, s, x);
     }
     s
 }

@@ -41,7 +41,12 @@ abbrev pub stateAt : Testt → States → Regs
 stateAt T58 s = s .s58
 stateAt T65 s = s .s65
 
--- the sibling by record i of the block with the schedule w, from the block's own state at the test step
+-- the sibling by record i of the block with the schedule w, from the state that was kept for the test step
+abbrev pub endsFrom : States → List ℕ → List ℕ → ℕ → Ends
+endsFrom s w table i =
+    recompressed (siblingOf w (dmAt table i)) (testAt table i) (stateAt (testtOf (testWordAt table i)) s)
+
+-- the same, from the block's own state at the test step
 unfoldable pub siblingEnds : Regs → List ℕ → List ℕ → ℕ → Ends
 siblingEnds h w table i =
     recompressed (siblingOf w (dmAt table i)) (testAt table i) (stepsOf w 0 (testAt table i) h)

@@ -10,7 +10,7 @@ ghost use Rattle.block.specs.Sibling.{recompressed};
 ghost use Rattle.table.specs.Limits.{recordWords};
 ghost use Rattle.table.specs.Table.{stepsBefore};
 ghost use Rattle.step.specs.Step.{stepsOf};
-ghost use Rattle.detect.specs.Detect.{hasBit, stateAt, marks, foundIn, twiceMore, answerOf, refusedBlock, oneBlockOf};
+ghost use Rattle.detect.specs.Detect.{hasBit, stateAt, endsFrom, marks, foundIn, twiceMore, answerOf, refusedBlock, oneBlockOf};
 use block::Ends;
 use block::States;
 use block::compression_states;
@@ -80,16 +80,24 @@ fn recompression_step(at: Testt, v: &[u32; 80], s: States) -> Ends
     }
 }
 
-// Whether record i marks the block that started from h and has the schedule w and the states s.
+// The sibling by record i of the block with the schedule w and the states s.
+fn sibling_ends(s: States, w: &[u32; 80], table: &[u32], i: usize) -> Ends
+    requires { ⌜ recordWords * i + recordWords ≤ length (now table) ⌝ }
+    ensures { λ r. ⌜ r ≡ endsFrom s (now (w .entry)) (now (table .entry)) i ⌝ }
+{
+    let at = RECORD_WORDS * i;
+    let dm = &table[at + 2..at + RECORD_WORDS];
+    let v = sibling(w, dm);
+    recompression_step(test_step(table[at + 1]), &v, s)
+}
+
+// Whether record i marks the block that started from h.
 fn record_marks(reduced: bool, h: Regs, s: States, w: &[u32; 80], table: &[u32], i: usize) -> bool
     requires { ⌜ recordWords * i + recordWords ≤ length (now table) ⌝ }
     requires { ⌜ s ≡ statesOf h (now w) ⌝ }
     ensures { λ r. ⌜ r ≡ marks reduced h (now (w .entry)) (now (table .entry)) i ⌝ }
 {
-    let at = RECORD_WORDS * i;
-    let dm = &table[at + 2..at + RECORD_WORDS];
-    let v = sibling(w, dm);
-    let ends = recompression_step(test_step(table[at + 1]), &v, s);
+    let ends = sibling_ends(s, w, table, i);
     if same_regs(ends.out, s.out) {
         return true;
     }
@@ -124,11 +132,17 @@ fn search(reduced: bool, table: &[u32], h: Regs, s: States, w: &[u32; 80], mask:
     }
 }
 
-// The chaining words of a marked block under mitigation: compressed twice more with the same schedule.
-fn twice_more(h: Regs, w: &[u32; 80]) -> Regs
-    ensures { λ r. ⌜ r ≡ twiceMore h (now (w .entry)) ⌝ }
+// The chaining words of a block: under mitigation a marked one is compressed twice more with the same schedule.
+fn mitigated(mark: bool, mitigate: bool, out: Regs, w: &[u32; 80]) -> Regs
+    ensures { λ r. ⌜ r ≡ pick (mark && mitigate) (twiceMore out (now (w .entry))) out ⌝ }
 {
-    compression_w(compression_w(h, w), w)
+    if !mark {
+        return out;
+    }
+    if !mitigate {
+        return out;
+    }
+    compression_w(compression_w(out, w), w)
 }
 
 // One block compressed with detection.
@@ -138,17 +152,10 @@ pub fn compress(mode: Mode, table: &[u32], h: Regs, block: &[u8], mask: u32) -> 
 {
     let mut w = [0u32; 80];
     let s = compression_states(h, block, &mut w);
+    let out = s.out;
     let found = search(mode.reduced, table, h, s, &w, mask);
-    if found.mark {
-        if mode.mitigate {
-            return Answer {
-                words: twice_more(s.out, &w),
-                found,
-            };
-        }
-    }
     Answer {
-        words: s.out,
+        words: mitigated(found.mark, mode.mitigate, out, &w),
         found,
     }
 }
@@ -165,10 +172,12 @@ pub fn one_block(words: [u32; 5], block: &[u8], table: &[u32], mask: u32, mode: 
         return refused(fault);
     }
     let a = compress(mode, table, regs_of(words), block, mask);
+    let found = a.found;
+    let five = five_of(a.words);
     OneBlock {
         refusal: Refusal::Nothing,
-        words: five_of(a.words),
-        found: a.found,
+        words: five,
+        found,
     }
 }
 

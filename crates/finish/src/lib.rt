@@ -7,17 +7,88 @@ ghost use lib.Seq.{paste};
 ghost use Rattle.hasher.specs.Hasher.{wellFormed, mostBytes, mostBlocks};
 ghost use Rattle.stream.specs.Fips.{be64, digestOf};
 ghost use Rattle.finish.specs.Finish.{tailBlocks, tailOf, lastChain, finishRefusal, finished, closed, writtenOut, oneShotRefusal, oneShotChain, digested};
-use hasher::{Hasher, MOST_BYTES, masks_wrong, table_refusal, well_formed};
-use refusal::{Refusal, is_nothing};
-use step::{Regs, regs_of};
-use stream::{Chain, Flags, fold_blocks, lent_masks};
-use verdict::{Verdict, verdict_of};
+use hasher::Hasher;
+use hasher::MOST_BYTES;
+use hasher::masks_wrong;
+use hasher::table_refusal;
+use hasher::well_formed;
+use refusal::Refusal;
+use refusal::is_nothing;
+use step::Regs;
+use step::regs_of;
+use stream::Chain;
+use stream::Flags;
+use stream::fold_blocks;
+use stream::lent_masks;
+use verdict::Verdict;
+use verdict::verdict_of;
 
 pub const DIGEST_SIZE: usize = 20;
 
 pub const SHA1_PADDING: [u8; 64] = [
-    0x80, 0, 0, 0, 0, 0, 0, 0, 0, 0, 0, 0, 0, 0, 0, 0, 0, 0, 0, 0, 0, 0, 0, 0, 0, 0, 0, 0, 0, 0, 0,
-    0, 0, 0, 0, 0, 0, 0, 0, 0, 0, 0, 0, 0, 0, 0, 0, 0, 0, 0, 0, 0, 0, 0, 0, 0, 0, 0, 0, 0, 0, 0, 0,
+    0x80,
+    0,
+    0,
+    0,
+    0,
+    0,
+    0,
+    0,
+    0,
+    0,
+    0,
+    0,
+    0,
+    0,
+    0,
+    0,
+    0,
+    0,
+    0,
+    0,
+    0,
+    0,
+    0,
+    0,
+    0,
+    0,
+    0,
+    0,
+    0,
+    0,
+    0,
+    0,
+    0,
+    0,
+    0,
+    0,
+    0,
+    0,
+    0,
+    0,
+    0,
+    0,
+    0,
+    0,
+    0,
+    0,
+    0,
+    0,
+    0,
+    0,
+    0,
+    0,
+    0,
+    0,
+    0,
+    0,
+    0,
+    0,
+    0,
+    0,
+    0,
+    0,
+    0,
     0,
 ];
 

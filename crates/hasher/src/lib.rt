@@ -6,13 +6,20 @@ ghost use lib.Seq.{paste};
 ghost use Rattle.stream.specs.Fold.{lent};
 ghost use Rattle.hasher.specs.Hasher.{allZero, wellFormed, blocksFilled, masksWrong, tableRefusal, updateRefusal, advanced, absorbed, updated, freshOf, resetOf};
 ghost use Rattle.hasher.specs.Ready.{Ready};
-use refusal::{Refusal, is_nothing};
-use step::{five_of, regs_of};
-use stream::{Chain, Flags, fold_blocks, lent_masks, uses_masks};
+use refusal::Refusal;
+use refusal::is_nothing;
+use step::five_of;
+use step::regs_of;
+use stream::Chain;
+use stream::Flags;
+use stream::fold_blocks;
+use stream::lent_masks;
+use stream::uses_masks;
 use table::table_fault;
 
 // The largest block count, and the longest message in bytes.
 pub const MOST_BLOCKS: u64 = 0x7FFFFFFFFFFFFF;
+
 pub const MOST_BYTES: u64 = 0x1FFFFFFFFFFFFFFF;
 
 pub struct Hasher {

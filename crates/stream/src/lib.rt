@@ -6,7 +6,8 @@ ghost use Rattle.stream.specs.Fips.{hashBlocks};
 ghost use Rattle.stream.specs.Flags.{isLent, usesMasks, defaults, withDetect, withMitigate, withMasks, masksOf, withReduced};
 ghost use Rattle.stream.specs.Fold.{allBits, lent, checkedOf, run, folded};
 use block::compression_plain;
-use detect::{Mode, compress};
+use detect::Mode;
+use detect::compress;
 use step::Regs;
 
 // Which vectors a block is tried with: all of them, or those of the mask lent for it.

@@ -1,0 +1,5 @@
+pub mod Fill
+pub mod Growth
+pub mod Stages
+pub mod Back
+pub mod Linear

@@ -1,0 +1,87 @@
+-- What the layers above know of a schedule: its elements are words, and the sibling's schedule is the schedule of the sibling's
+-- sixteen words, since the rule is linear. Assumes nothing.
+use mathlib.Core.Bool.{Bool, true, false}
+use mathlib.Core.Logic.{⊎-elim}
+use mathlib.Core.Path.{_≡_, refl, sym, ap, ap₂, _∙_}
+use mathlib.Core.List.{List, [], _∷_, _++_}
+use Prim.Native.Nat.{ℕ, zero, suc, _+_, _-_, _*_, _^_, _≤_, _<_}
+use native.Mathlib.Nat.{eq-zero-or-pos}
+use native.Mathlib.Omega.{arith}
+use lib.Bits.{bitXor}
+use lib.Dec.{ltb}
+use lib.ListN.{length, getD}
+use lib.Pow.{pow-pos}
+use Rattle.word.specs.Choice.{pick}
+use Rattle.word.specs.Lists.{listOf, xorWords, AllWords}
+use Rattle.word.specs.Rule.{rule, ruleAt}
+use Rattle.word.proofs.Xor.{rule-lt, rule-xor}
+use Rattle.block.specs.Schedule.{wordAt, wordsOf, scheduled, scheduleOf}
+use Rattle.block.specs.Sibling.{siblingOf}
+use Rattle.block.proofs.Fill.{list-at}
+use Rattle.block.proofs.Growth.{word, schedule-list, word-given, word-ruled, schedule-ruled}
+
+-- one word more
+words-snoc : (w : List ℕ) (x : ℕ) → AllWords w → x < 2 ^ 32 → AllWords (w ++ (x ∷ []))
+words-snoc [] x h l zero = l
+words-snoc [] x h l (suc i) = pow-pos 32
+words-snoc (y ∷ w) x h l zero = h zero
+words-snoc (y ∷ w) x h l (suc i) = words-snoc w x (λ j. h (suc j)) l i
+
+list-words : (f : ℕ → ℕ) (n : ℕ) → ((i : ℕ) → f i < 2 ^ 32) → AllWords (listOf f n)
+unfolding listOf
+list-words f zero h = λ i. pow-pos 32
+list-words f (suc n) h = words-snoc (listOf f n) (f n) (list-words f n h) (h n)
+
+-- the sixteen words of a block of bytes
+pub words-words : (block : List ℕ) → ((i : ℕ) → getD block i 0 < 256) → AllWords (wordsOf block)
+words-words block h =
+    list-words (wordAt block) 16 (λ i. omega (arith, h (4 * i), h (4 * i + 1), h (4 * i + 2), h (4 * i + 3)))
+
+pick-lt : (b : Bool) (x y k : ℕ) → x < k → y < k → pick b x y < k
+pick-lt true x y k hx hy = hx
+pick-lt false x y k hx hy = hy
+
+-- every element of a schedule of words
+pub schedule-words : (m : List ℕ) → AllWords m → (n : ℕ) → AllWords (scheduled m n)
+unfolding scheduled
+schedule-words m h zero = λ i. pow-pos 32
+schedule-words m h (suc n) =
+    let w = scheduled m n in
+    let g = schedule-words m h n in
+    let t = length w in
+    words-snoc w _ g (pick-lt (ltb t 16) _ _ _ (h t) (rule-lt _ _ _ _ (g (t - 3)) (g (t - 8)) (g (t - 14)) (g (t - 16))))
+
+module _ (m dm : List ℕ) (hm : AllWords m) (hd : AllWords dm) (obeys : (t : ℕ) → 16 ≤ t → t < 80 → getD dm t 0 ≡ ruleAt dm t) where
+  abbrev w : List ℕ
+  w = scheduleOf m
+
+  -- word t of the sibling's schedule
+  abbrev f : ℕ → ℕ
+  f t = bitXor (getD w t 0) (getD dm t 0)
+
+  abbrev v : List ℕ
+  v = xorWords 16 w dm
+
+  -- the rule on the sibling's words so far gives the next one
+  next : (t : ℕ) → 16 ≤ t → t < 80 → ruleAt (listOf f t) t ≡ f t
+  next t h l =
+      let hw = schedule-words m hm 80 in
+      rw (list-at f t (t - 3) (omega arith), list-at f t (t - 8) (omega arith), list-at f t (t - 14) (omega arith), list-at f t (t - 16) (omega arith))
+      (rule-xor _ _ _ _ _ _ _ _ (hw (t - 3)) (hw (t - 8)) (hw (t - 14)) (hw (t - 16)) (hd (t - 3)) (hd (t - 8)) (hd (t - 14)) (hd (t - 16))
+      ∙ ap₂ bitXor (sym (schedule-ruled m 80 t h l)) (sym (obeys t h l)))
+
+  so-far : (n : ℕ) → n ≤ 80 → listOf f n ≡ scheduled v n
+  unfolding scheduled listOf
+  so-far zero h = refl
+  so-far (suc n) h =
+      let e = so-far n (omega arith) in
+      let x : f n ≡ word v n =
+      ⊎-elim (λ z. sym (word-given v n (omega arith) ∙ list-at f 16 n (omega arith)))
+      (λ p. sym (word-ruled v n (omega arith) ∙ ap (λ (l : List ℕ). ruleAt l n) (sym e) ∙ next n (omega arith) (omega arith)))
+      (eq-zero-or-pos (n - 15)) in
+      ap₂ (λ (l : List ℕ) (y : ℕ). l ++ (y ∷ [])) (e ∙ schedule-list v n) x ∙ sym (schedule-list v (suc n))
+
+pub sibling-schedule : (m dm : List ℕ) → length m ≡ 16 → AllWords m → length dm ≡ 80 → AllWords dm
+    → ((t : ℕ) → 16 ≤ t → t < 80 → getD dm t 0 ≡ ruleAt dm t)
+    → siblingOf (scheduleOf m) dm ≡ scheduleOf (xorWords 16 (scheduleOf m) dm)
+sibling-schedule m dm _ hm _ hd obeys = so-far m dm hm hd obeys 80 (omega arith)

@@ -1,0 +1,61 @@
+use borrow.Author.Needs.{needs}
+use Rattle.block.specs.Schedule.{wordsOf}
+use Rattle.block.specs.Compress.{statesOf, overSchedule}
+use Rattle.block.specs.Stage.{Stage}
+use Rattle.block.proofs.Stages.{stage-end}
+use Rattle.block.proofs.compression_states.Statement.{statement}
+use Rattle.block.proofs.compression_states.Tie as tie
+
+first-forty-requires : tie.Need-first-forty-requires
+first-forty-requires c κs = search needs
+
+run-requires : tie.Need-run-requires
+run-requires c κs = search needs
+
+run-requires-2 : tie.Need-run-requires-2
+run-requires-2 c κs = search needs
+
+run-requires-3 : tie.Need-run-requires-3
+run-requires-3 c κs = search needs
+
+run-requires-4 : tie.Need-run-requires-4
+run-requires-4 c κs = search needs
+
+run-requires-5 : tie.Need-run-requires-5
+run-requires-5 c κs = search needs
+
+run-requires-6 : tie.Need-run-requires-6
+run-requires-6 c κs = search needs
+
+add-regs-requires : tie.Need-add-regs-requires
+add-regs-requires c κs = search needs
+
+returns : tie.Need-returns
+unfolding statesOf overSchedule
+returns c =
+    let r5 = c .before .before .before in
+    let r4 = r5 .before .before in
+    let r3 = r4 .before .before in
+    let r2 = r3 .before .before in
+    let r1 = r2 .before .before in
+    let f = r1 .before .before in
+    let a = f .before .before .before .args in
+    let m = wordsOf (a .block .now) in
+    let g58 = r2 .run2 .ensures m (a .h) (r1 .run .ensures m (a .h) (f .first-forty .ensures)) in
+    let g65 = r4 .run4 .ensures m (a .h) (r3 .run3 .ensures m (a .h) g58) in
+    let g80 = c .before .run6 .ensures m (a .h) (r5 .run5 .ensures m (a .h) g65) in
+    (stage-end m (a .h) _ _ g80, rw (g58 .regs, g65 .regs, c .add-regs .ensures, g80 .regs))
+
+pub compression-states-spec : {M : Type 1} → statement M
+compression-states-spec =
+    tie.close
+    (tie.spec
+    first-forty-requires
+    run-requires
+    run-requires-2
+    run-requires-3
+    run-requires-4
+    run-requires-5
+    run-requires-6
+    add-regs-requires
+    returns)

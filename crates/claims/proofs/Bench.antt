@@ -1,0 +1,44 @@
+-- 01's bench checks that are marked P, of the meanings: one list, one claim. Assumes nothing.
+use mathlib.Core.Path.{_≡_, refl, ap, ap₂, _∙_}
+use mathlib.Core.List.{List, [], _∷_}
+use Prim.Native.Nat.{ℕ, _+_, _-_, _%_, _^_, _<_}
+use native.Mathlib.Nat.{mod-eq-of-lt}
+use lib.Bits.{bitAnd, bitXor, and-comm, and-mask, xor-zero-r}
+use Rattle.word.specs.Word.{rotl, not32, Ch, Maj, _⊟_}
+use Rattle.step.specs.Step.{stepAt, undoAt, stepWith, undoWith, fAt, kAt}
+use Rattle.step.specs.declared.Regs.{Regs}
+
+-- five zeros
+abbrev zeros : Regs
+zeros = record { a = 0; b = 0; c = 0; d = 0; e = 0 }
+
+-- step 0 on zeros with the word 0
+abbrev stepped : Regs
+stepped = record { a = 0x5A827999; b = 0; c = 0; d = 0; e = 0 }
+
+-- the checks, each a proposition
+abbrev checks : List (Type 0)
+checks =
+    (rotl 5 0x80000001 ≡ 0x00000030)
+    ∷ (rotl 30 1 ≡ 0x40000000)
+    ∷ (Maj 0xFFFFFFFF 0 0x0F0F0F0F ≡ 0x0F0F0F0F)
+    ∷ ((c d : ℕ) → c < 2 ^ 32 → Ch 0xFFFFFFFF c d ≡ c)
+    ∷ (stepAt 0 zeros 0 ≡ stepped)
+    ∷ (stepAt 0 zeros 0xA57D8667 ≡ zeros)
+    ∷ (undoAt 0 stepped 0 ≡ zeros)
+    ∷ []
+
+-- all of a list of propositions hold
+abbrev Hold : List (Type 0) → Type 0
+Hold [] = Unit
+Hold (p ∷ ps) = p × Hold ps
+
+-- choose with every bit of b set
+chosen : (c d : ℕ) → c < 2 ^ 32 → Ch 0xFFFFFFFF c d ≡ c
+unfolding Ch not32
+chosen c d h =
+    xor-zero-r (bitAnd 0xFFFFFFFF c) ∙ and-comm 0xFFFFFFFF c ∙ and-mask c 32 ∙ mod-eq-of-lt h
+
+pub bench : Hold checks
+unfolding rotl not32 Ch Maj _⊟_ stepAt undoAt stepWith undoWith fAt kAt
+bench = (refl, (refl, (refl, (chosen, (refl, (refl, (refl, tt)))))))

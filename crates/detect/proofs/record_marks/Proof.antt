@@ -1,0 +1,54 @@
+use borrow.Author.Needs.{needs}
+use Rattle.detect.proofs.Marks.{marks-kept}
+use Rattle.detect.proofs.record_marks.Statement.{statement}
+use Rattle.detect.proofs.record_marks.Tie as tie
+use Rattle.detect.proofs.record_marks.Reads as reads
+use Rattle.detect.proofs.record_marks.Lts as lts
+use Rattle.detect.proofs.sibling_ends.Reads as sibling-ends-reads
+use Rattle.step.proofs.same_regs.Reads as same-regs-reads
+
+-- src/lib.rt:100:9
+sibling-ends-requires : tie.Need-sibling-ends-requires
+sibling-ends-requires c κs = search needs
+
+-- src/lib.rt:101:8
+same-regs-requires : tie.Need-same-regs-requires
+same-regs-requires c κs = search needs
+
+-- src/lib.rt:102:9
+returns : tie.Need-returns
+returns c =
+    let b = c .before .before in
+    let a = b .before .before .args in
+    let p = b .before .before .pre in
+    rw (marks-kept (a .reduced) (a .h) (a .s) (a .w .now) (a .table .now) (a .i) (b .sibling-ends .result) (p .1) (b .sibling-ends .ensures), ← c .before .same-regs .ensures, c .if1 .taken)
+
+same-regs-requires-2 : tie.Need-same-regs-requires-2
+same-regs-requires-2 c κs = search needs
+
+returns-2 : tie.Need-returns-2
+returns-2 c =
+    let d = c .before .before in
+    let b = d .before .before in
+    let a = b .before .before .args in
+    let p = b .before .before .pre in
+    rw (marks-kept (a .reduced) (a .h) (a .s) (a .w .now) (a .table .now) (a .i) (b .sibling-ends .result) (p .1) (b .sibling-ends .ensures), ← d .before .same-regs .ensures, d .if1 .left, c .before .if2 .taken) (c .same-regs2 .ensures)
+
+returns-3 : tie.Need-returns-3
+returns-3 c =
+    let d = c .before in
+    let b = d .before .before in
+    let a = b .before .before .args in
+    let p = b .before .before .pre in
+    rw (marks-kept (a .reduced) (a .h) (a .s) (a .w .now) (a .table .now) (a .i) (b .sibling-ends .result) (p .1) (b .sibling-ends .ensures), ← d .before .same-regs .ensures, d .if1 .left, c .if2 .left)
+
+pub record-marks-spec : {M : Type 1} → statement M
+record-marks-spec =
+    tie.close
+    (tie.spec
+    sibling-ends-requires
+    same-regs-requires
+    returns
+    same-regs-requires-2
+    returns-2
+    returns-3)

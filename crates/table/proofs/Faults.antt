@@ -1,0 +1,104 @@
+-- What is wrong with a table: its length, else its first bad record. Assumes nothing.
+use mathlib.Core.Path.{_≡_, sym, ap, _∙_}
+use mathlib.Core.Logic.{_⊎_, ⊎-elim, ⊎-map, _↔_}
+use mathlib.Core.Bool.{true, false}
+use mathlib.Core.List.{List}
+use Prim.Native.Nat.{ℕ, zero, suc, _+_, _-_, _*_, _%_, _≤_, _<_}
+use native.Mathlib.Nat.{sub-zero}
+use native.Mathlib.Numerals.{add-one}
+use native.Mathlib.Omega.{arith}
+use lib.Dec.{ltb, leb}
+use lib.ListN.{length}
+use borrow.Author.Tests.{ltb-true, leb-true, eqb-true, ltb-false, leb-false, eqb-false}
+use Rattle.refusal.specs.Refusal.{numberOf, isNothing}
+use Rattle.refusal.specs.declared.Refusal.{Refusal}
+use Rattle.refusal.specs.declared.Refusal.the-variants.{Nothing, TableLength}
+use Rattle.table.specs.Limits.{recordWords, mostRecords}
+use Rattle.table.specs.Table.{recordsIn, recordFault, faultFrom, wholeRecords, tableFault}
+use Rattle.table.proofs.Tests.{unless-true, both-true, one-false, of-either}
+use Rattle.table.proofs.Record.{of-each}
+
+-- the turns of the loop up to record n
+module _ (table : List ℕ) (i n : ℕ) where
+  pub faults-here : i < n → isNothing (recordFault table i) ≡ false → faultFrom table i (n - i) ≡ recordFault table i
+  unfolding faultFrom
+  faults-here h b =
+      let k : n - i ≡ suc (n - (i + 1)) = omega arith in
+      rw (k, b)
+
+  pub faults-more : i < n → isNothing (recordFault table i) ≡ true → faultFrom table i (n - i) ≡ faultFrom table (i + 1) (n - (i + 1))
+  unfolding faultFrom
+  faults-more h g =
+      let k : n - i ≡ suc (n - (i + 1)) = omega arith in
+      rw (k, add-one i, g)
+
+  pub faults-done : n ≤ i → faultFrom table i (n - i) ≡ Nothing
+  unfolding faultFrom
+  faults-done h =
+      let k : n - i ≡ 0 = omega arith in
+      rw k
+
+-- n words can be no table
+abbrev pub BadLength : ℕ → Type 0
+BadLength n = (n ≡ 0) ⊎ ((recordWords * mostRecords < n) ⊎ (n % recordWords ≡ 0 → ⊥))
+
+pub whole-length : (n : ℕ) → wholeRecords n ≡ true → (0 < n) × (n ≤ recordWords * mostRecords) × (n % recordWords ≡ 0)
+whole-length n w =
+    let h = both-true (ltb 0 n) _ w in
+    let g = both-true (leb n (recordWords * mostRecords)) _ (h .1) in
+    (ltb-true _ _ (h .0), leb-true _ _ (g .0), eqb-true _ _ (g .1))
+
+pub not-whole : (n : ℕ) → (wholeRecords n ≡ false) ↔ BadLength n
+not-whole n = (
+  λ w. ⊎-map (λ e. omega (arith, ltb-false 0 n e))
+      (λ v. ⊎-map (leb-false n (recordWords * mostRecords)) (eqb-false (n % recordWords) 0) (one-false (leb n _) _ v))
+      (one-false (ltb 0 n) _ w),
+  λ b. unless-true (wholeRecords n) (λ w.
+      let h = whole-length n w in
+      ⊎-elim (λ e. omega arith) (⊎-elim (λ l. omega arith) (λ m. m (h .2))) b),
+)
+
+module _ (table : List ℕ) where
+  pub length-fault : wholeRecords (length table) ≡ false → tableFault table ≡ TableLength
+  unfolding tableFault
+  length-fault w = rw w
+
+  pub records-fault : wholeRecords (length table) ≡ true → tableFault table ≡ faultFrom table 0 (recordsIn (length table) - 0)
+  unfolding tableFault
+  records-fault w = rw (w, sub-zero (recordsIn (length table)))
+
+  -- no record's fault is the length
+  not-length : (n i : ℕ) → numberOf (faultFrom table i n) ≡ 2 → ⊥
+  unfolding faultFrom
+  not-length zero i = λ e. omega arith
+  not-length (suc n) i =
+      of-either (λ (r : Refusal). numberOf r ≡ 2 → ⊥) (isNothing (recordFault table i)) _ _ (not-length n (suc i))
+      (of-each table i (λ (r : Refusal). numberOf r ≡ 2 → ⊥) (λ e. omega arith) (λ e. omega arith) (λ e. omega arith) (λ e. omega arith))
+
+  -- the length is what is wrong exactly when it is 0, above the most, or no whole number of records
+  pub is-2 : (numberOf (tableFault table) ≡ 2) ↔ BadLength (length table)
+  is-2 = (
+    λ e. not-whole (length table) .0 (unless-true _ (λ w. not-length _ 0 (ap numberOf (sym (records-fault w)) ∙ e))),
+    λ b. ap numberOf (length-fault (not-whole (length table) .1 b)),
+  )
+
+  pub is-length : (tableFault table ≡ TableLength) ↔ BadLength (length table)
+  is-length = (λ e. is-2 .0 (ap numberOf e), λ b. length-fault (not-whole (length table) .1 b))
+
+-- each record before place i is good
+abbrev pub GoodBelow : List ℕ → ℕ → Type 0
+GoodBelow table i = (j : ℕ) → j < i → isNothing (recordFault table j) ≡ true
+
+module _ (table : List ℕ) (whole : wholeRecords (length table) ≡ true) where
+  passed : (i : ℕ) → i ≤ recordsIn (length table) → GoodBelow table i → tableFault table ≡ faultFrom table i (recordsIn (length table) - i)
+  passed zero h g = records-fault table whole
+  passed (suc i) h g =
+      passed i (omega arith) (λ j l. g j (omega arith)) ∙ faults-more table i (recordsIn (length table)) h (g i (omega arith)) ∙ rw (add-one i)
+
+  -- the first bad record in table order decides
+  pub first-bad : (i : ℕ) → i < recordsIn (length table) → GoodBelow table i → isNothing (recordFault table i) ≡ false
+      → tableFault table ≡ recordFault table i
+  first-bad i h g b = passed i (omega arith) g ∙ faults-here table i (recordsIn (length table)) h b
+
+  pub all-good : GoodBelow table (recordsIn (length table)) → tableFault table ≡ Nothing
+  all-good g = passed (recordsIn (length table)) (omega arith) g ∙ faults-done table _ (recordsIn (length table)) (omega arith)

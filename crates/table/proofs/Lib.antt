@@ -1,0 +1,5 @@
+pub mod Tests
+pub mod Rule
+pub mod Record
+pub mod Faults
+pub mod Good

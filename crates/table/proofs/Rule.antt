@@ -1,0 +1,57 @@
+-- The test of the rule, one word at a time, and what it says of each word. Assumes nothing.
+use mathlib.Core.Path.{_≡_, refl}
+use mathlib.Core.Logic.{⊎-elim}
+use mathlib.Core.Bool.{true, false}
+use mathlib.Core.List.{List}
+use Prim.Native.Nat.{ℕ, zero, suc, _+_, _-_, _≤_, _<_}
+use native.Mathlib.Nat.{eq-or-lt-of-le}
+use native.Mathlib.Numerals.{add-one}
+use native.Mathlib.Omega.{arith}
+use lib.Dec.{eqb}
+use lib.ListN.{getD}
+use borrow.Author.Tests.{eq-eqb, ne-eqb, eqb-true}
+use Rattle.word.specs.Rule.{ruleAt}
+use Rattle.table.specs.Limits.{dmWords}
+use Rattle.table.specs.Table.{obeysFrom, obeys}
+use Rattle.table.proofs.Tests.{both-true}
+
+-- the turns of the loop up to place n
+module _ (dm : List ℕ) (t n : ℕ) where
+  pub obeys-more : t < n → getD dm t 0 ≡ ruleAt dm t → obeysFrom dm t (n - t) ≡ obeysFrom dm (t + 1) (n - (t + 1))
+  unfolding obeysFrom
+  obeys-more h e =
+      let k : n - t ≡ suc (n - (t + 1)) = omega arith in
+      rw (k, add-one t, eq-eqb (getD dm t 0) (ruleAt dm t) e)
+
+  pub obeys-not : t < n → (getD dm t 0 ≡ ruleAt dm t → ⊥) → obeysFrom dm t (n - t) ≡ false
+  unfolding obeysFrom
+  obeys-not h e =
+      let k : n - t ≡ suc (n - (t + 1)) = omega arith in
+      rw (k, ne-eqb (getD dm t 0) (ruleAt dm t) e)
+
+  pub obeys-done : n ≤ t → obeysFrom dm t (n - t) ≡ true
+  unfolding obeysFrom
+  obeys-done h =
+      let k : n - t ≡ 0 = omega arith in
+      rw k
+
+-- the test is passed exactly when each word is what the rule gives
+obeys-from : (dm : List ℕ) (n k t : ℕ) → obeysFrom dm k n ≡ true → k ≤ t → t < k + n → getD dm t 0 ≡ ruleAt dm t
+unfolding obeysFrom
+obeys-from dm zero k t o h l = absurd (omega arith)
+obeys-from dm (suc n) k t o h l =
+    let b = both-true (eqb (getD dm k 0) (ruleAt dm k)) _ o in
+    ⊎-elim (λ e. rw (← e) (eqb-true _ _ (b .0))) (λ g. obeys-from dm n (suc k) t (b .1) g (omega arith)) (eq-or-lt-of-le h)
+
+from-all : (dm : List ℕ) (n k : ℕ) → ((t : ℕ) → k ≤ t → t < k + n → getD dm t 0 ≡ ruleAt dm t) → obeysFrom dm k n ≡ true
+unfolding obeysFrom
+from-all dm zero k h = refl
+from-all dm (suc n) k h =
+    rw (eq-eqb (getD dm k 0) (ruleAt dm k) (h k (omega arith) (omega arith)))
+    (from-all dm n (suc k) (λ t g l. h t (omega arith) (omega arith)))
+
+pub obeys-at : (dm : List ℕ) → obeys dm ≡ true → (t : ℕ) → 16 ≤ t → t < dmWords → getD dm t 0 ≡ ruleAt dm t
+obeys-at dm o t h l = obeys-from dm (dmWords - 16) 16 t o h l
+
+pub obeys-if : (dm : List ℕ) → ((t : ℕ) → 16 ≤ t → t < dmWords → getD dm t 0 ≡ ruleAt dm t) → obeys dm ≡ true
+obeys-if dm h = from-all dm (dmWords - 16) 16 h

@@ -1,0 +1,114 @@
+-- `table::obeys_rule` meets its contract. The invariant: the words still to be looked at decide. Assumes nothing.
+use mathlib.Core.Path.{_≡_, refl, sym, _∙_}
+use Prim.Native.Nat.{_-_, _≤_}
+use borrow.Author.Needs.{needs}
+use Rattle.table.specs.Limits.{dmWords}
+use Rattle.table.specs.Table.{obeysFrom, obeys}
+use Rattle.table.proofs.Rule.{obeys-more, obeys-not, obeys-done}
+use Rattle.table.proofs.obeys_rule.Statement.{statement}
+use Rattle.table.proofs.obeys_rule.Tie as tie
+
+abbrev Inv-loop : tie.InvT-loop
+Inv-loop dm t₀ t = (16 ≤ t) × (obeysFrom dm t (dmWords - t) ≡ obeys dm)
+
+abbrev μ-loop : tie.MeasureT-loop
+μ-loop dm t₀ t = dmWords - t
+
+loop-holds : tie.Need-loop-holds Inv-loop μ-loop
+loop-holds c = (search needs, refl)
+
+mul-if1 : tie.Need-mul-if1 Inv-loop μ-loop
+mul-if1 c = search needs
+
+shared-slice-read-if1 : tie.Need-shared-slice-read-if1 Inv-loop μ-loop
+shared-slice-read-if1 c = search needs
+
+sub-mix : tie.Need-sub-mix Inv-loop μ-loop
+sub-mix c = search needs
+
+mul-mix : tie.Need-mul-mix Inv-loop μ-loop
+mul-mix c = search needs
+
+shared-slice-read-mix : tie.Need-shared-slice-read-mix Inv-loop μ-loop
+shared-slice-read-mix c = search needs
+
+sub-mix-2 : tie.Need-sub-mix-2 Inv-loop μ-loop
+sub-mix-2 c = search needs
+
+mul-mix-2 : tie.Need-mul-mix-2 Inv-loop μ-loop
+mul-mix-2 c = search needs
+
+shared-slice-read-mix-2 : tie.Need-shared-slice-read-mix-2 Inv-loop μ-loop
+shared-slice-read-mix-2 c = search needs
+
+sub-mix-3 : tie.Need-sub-mix-3 Inv-loop μ-loop
+sub-mix-3 c = search needs
+
+mul-mix-3 : tie.Need-mul-mix-3 Inv-loop μ-loop
+mul-mix-3 c = search needs
+
+shared-slice-read-mix-3 : tie.Need-shared-slice-read-mix-3 Inv-loop μ-loop
+shared-slice-read-mix-3 c = search needs
+
+sub-mix-4 : tie.Need-sub-mix-4 Inv-loop μ-loop
+sub-mix-4 c = search needs
+
+mul-mix-4 : tie.Need-mul-mix-4 Inv-loop μ-loop
+mul-mix-4 c = search needs
+
+shared-slice-read-mix-4 : tie.Need-shared-slice-read-mix-4 Inv-loop μ-loop
+shared-slice-read-mix-4 c = search needs
+
+mix-requires : tie.Need-mix-requires Inv-loop μ-loop
+mix-requires c κs = search needs
+
+returns : tie.Need-returns Inv-loop μ-loop
+returns c =
+    let h = c .before .before .before .before .before .before .before .before in
+    let dm = h .before .before .args .dm .now in
+    sym (obeys-not dm (h .loop .t) dmWords (search needs) (λ e. c .if1 .taken (e ∙ sym (c .before .mix .ensures)))) ∙ h .loop .inv .1
+
+add-t : tie.Need-add-t Inv-loop μ-loop
+add-t c = search needs
+
+loop-less : tie.Need-loop-less Inv-loop μ-loop
+loop-less c = search needs
+
+loop-again : tie.Need-loop-again Inv-loop μ-loop
+loop-again c =
+    let h = c .before .before .before .before .before .before .before .before in
+    let dm = h .before .before .args .dm .now in
+    (search needs, sym (obeys-more dm (h .loop .t) dmWords (search needs) (c .if1 .left ∙ c .before .mix .ensures)) ∙ h .loop .inv .1)
+
+returns-2 : tie.Need-returns-2 Inv-loop μ-loop
+returns-2 c =
+    let h = c .before in
+    sym (obeys-done (h .before .before .args .dm .now) (h .loop .t) dmWords (search needs)) ∙ h .loop .inv .1
+
+pub obeys-rule-spec : {M : Type 1} → statement M
+obeys-rule-spec =
+    tie.close
+    (tie.spec
+    Inv-loop
+    μ-loop
+    loop-holds
+    mul-if1
+    shared-slice-read-if1
+    sub-mix
+    mul-mix
+    shared-slice-read-mix
+    sub-mix-2
+    mul-mix-2
+    shared-slice-read-mix-2
+    sub-mix-3
+    mul-mix-3
+    shared-slice-read-mix-3
+    sub-mix-4
+    mul-mix-4
+    shared-slice-read-mix-4
+    mix-requires
+    returns
+    add-t
+    loop-less
+    loop-again
+    returns-2)

@@ -1,5 +1,5 @@
 -- Finishing a message: the last blocks, the digest and the verdict. 01, "The hasher".
-use mathlib.Core.Bool.{Bool, not}
+use mathlib.Core.Bool.{Bool, false, not}
 use mathlib.Core.List.{List, [], _∷_, _++_}
 use Prim.Native.Nat.{ℕ, _+_, _-_, _*_, _/_, _%_}
 use lib.Dec.{ltb, leb, eqb}

@@ -13,7 +13,7 @@ use lib.ListN.{length, getD}
 use lib.Pow.{pow-pos}
 use Rattle.word.specs.Choice.{pick}
 use Rattle.word.specs.Lists.{listOf, xorWords, AllWords}
-use Rattle.word.specs.Rule.{rule, ruleAt}
+use Rattle.word.specs.Rule.{ruleAt}
 use Rattle.word.proofs.Xor.{rule-lt, rule-xor}
 use Rattle.block.specs.Schedule.{wordAt, wordsOf, scheduled, scheduleOf}
 use Rattle.block.specs.Sibling.{siblingOf}
@@ -70,6 +70,7 @@ module _ (m dm : List ℕ) (hm : AllWords m) (hd : AllWords dm) (obeys : (t : �
       (rule-xor _ _ _ _ _ _ _ _ (hw (t - 3)) (hw (t - 8)) (hw (t - 14)) (hw (t - 16)) (hd (t - 3)) (hd (t - 8)) (hd (t - 14)) (hd (t - 16))
       ∙ ap₂ bitXor (sym (schedule-ruled m 80 t h l)) (sym (obeys t h l)))
 
+  -- the sibling's first n words are those of the schedule of its sixteen
   so-far : (n : ℕ) → n ≤ 80 → listOf f n ≡ scheduled v n
   unfolding scheduled listOf
   so-far zero h = refl
@@ -81,6 +82,7 @@ module _ (m dm : List ℕ) (hm : AllWords m) (hd : AllWords dm) (obeys : (t : �
       (eq-zero-or-pos (n - 15)) in
       ap₂ (λ (l : List ℕ) (y : ℕ). l ++ (y ∷ [])) (e ∙ schedule-list v n) x ∙ sym (schedule-list v (suc n))
 
+-- where the difference words obey the rule, the sibling has the schedule of a block
 pub sibling-schedule : (m dm : List ℕ) → length m ≡ 16 → AllWords m → length dm ≡ 80 → AllWords dm
     → ((t : ℕ) → 16 ≤ t → t < 80 → getD dm t 0 ≡ ruleAt dm t)
     → siblingOf (scheduleOf m) dm ≡ scheduleOf (xorWords 16 (scheduleOf m) dm)

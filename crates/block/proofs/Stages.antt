@@ -1,20 +1,19 @@
 -- A compression from one step to the next. Assumes nothing.
 use mathlib.Core.Path.{_≡_, refl, sym, ap, _∙_}
-use mathlib.Core.List.{List, [], _∷_, _++_}
-use Prim.Native.Nat.{ℕ, zero, suc, _+_, _-_, _≤_, _<_}
-use native.Mathlib.Numerals.{add-one}
+use mathlib.Core.List.{List}
+use Prim.Native.Nat.{ℕ, _+_, _≤_, _<_}
 use native.Mathlib.Nat.{zero-add}
+use native.Mathlib.Numerals.{add-one}
 use native.Mathlib.Omega.{arith}
-use lib.ListN.{length, getD, take, set, length-set}
-use lib.Seq.{take-suc-set, take-all, getD-take}
+use lib.ListN.{length, getD, set}
+use lib.Seq.{take-all, getD-take}
 use Rattle.word.specs.Rule.{ruleAt}
-use Rattle.word.specs.Lists.{listOf}
 use Rattle.step.specs.Step.{stepAt, stepsOf}
 use Rattle.step.specs.declared.Regs.{Regs}
 use Rattle.step.proofs.Runs.{steps-last}
-use Rattle.block.specs.Schedule.{wordAt, wordsOf, scheduled, scheduleOf}
+use Rattle.block.specs.Schedule.{scheduled, scheduleOf}
 use Rattle.block.specs.Stage.{Stage}
-use Rattle.block.proofs.Fill.{list-at}
+use Rattle.block.proofs.Fill.{Filled, fill-more}
 use Rattle.block.proofs.Growth.{rule-agree, word, schedule-list, schedule-at, word-given, word-ruled}
 
 -- no step is taken
@@ -22,24 +21,24 @@ pub stage-start : (m : List ℕ) (h : Regs) (w : List ℕ) → length w ≡ 80 �
 unfolding scheduled stepsOf
 stage-start m h w l = record { size = l; words = refl; regs = refl }
 
--- word t of the schedule, x, is put in, and stepped from s to r
+-- word x is put in at place t, and the step with it leads from s to r
 module _ (m : List ℕ) (h : Regs) (t : ℕ) (w : List ℕ) (s : Regs) (x : ℕ) (r : Regs) (g : Stage m h t w s)
-    (put : r ≡ stepAt t s x) where
+    (stepped : r ≡ stepAt t s x) where
   stage-more : t < 80 → x ≡ word m t → Stage m h (t + 1) (set w t x) r
-  unfolding listOf
   stage-more l e =
-      let n : t < length w = omega (arith, g .size) in
-      let words : take (t + 1) (set w t x) ≡ scheduled m (t + 1) =
-      rw (add-one t, take-suc-set w t x n, schedule-list m (suc t), ← schedule-list m t, g .words, e) in
-      let regs : r ≡ stepsOf (scheduleOf m) 0 (t + 1) h =
-      rw (put, add-one t, steps-last (scheduleOf m) t 0 h, zero-add t, schedule-at m 80 t l, e, g .regs) in
-      record { size = length-set w t x ∙ g .size; words = words; regs = regs }
+      let before : Filled (word m) 80 w t = record { bound = omega arith; size = g .size; so-far = g .words ∙ schedule-list m t } in
+      let after = fill-more (word m) 80 w t x before l e in
+      record {
+        size = after .size;
+        words = after .so-far ∙ sym (schedule-list m (t + 1));
+        regs = rw (stepped, add-one t, steps-last (scheduleOf m) t 0 h, zero-add t, schedule-at m 80 t l, e, g .regs);
+      }
 
-  -- one of the sixteen
+  -- x is one of the sixteen
   pub stage-load : t < 16 → x ≡ getD m t 0 → Stage m h (t + 1) (set w t x) r
   stage-load l e = stage-more (omega arith) (e ∙ sym (word-given m t l))
 
-  -- one by the rule
+  -- x is by the rule
   pub stage-rule : 16 ≤ t → t < 80 → x ≡ ruleAt w t → Stage m h (t + 1) (set w t x) r
   stage-rule k l e =
       let same : (i : ℕ) → i < t → getD w i 0 ≡ getD (scheduled m t) i 0 =
@@ -48,4 +47,4 @@ module _ (m : List ℕ) (h : Regs) (t : ℕ) (w : List ℕ) (s : Regs) (x : ℕ)
 
 -- all eighty steps are taken
 pub stage-end : (m : List ℕ) (h : Regs) (w : List ℕ) (s : Regs) → Stage m h 80 w s → w ≡ scheduleOf m
-stage-end m h w s g = sym (take-all 80 w (omega (arith, g .size))) ∙ g .words
+stage-end m h w s g = sym (take-all 80 w (omega arith)) ∙ g .words

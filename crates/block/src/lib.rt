@@ -41,7 +41,7 @@ fn word_at(block: &[u8], i: usize) -> u32
 }
 
 // Words from..to of the schedule read from the block, each stepped as soon as it is there: a schedule filled
-// beforehand costs half as much time again.
+// beforehand costs half as much time again. The array comes as a slice: lending it as one is what tells its length.
 fn begin(from: usize, to: usize, start: Regs, w: &mut [u32], block: &[u8]) -> Regs
     requires { ⌜ (from ≤ to) × (to ≤ 16) × (length (now w) ≡ 80) × (length (now block) ≡ 64) ⌝ }
     ensures { λ r. ⌜ Onward (wordsOf (now (block .entry))) from to (now (w .entry)) start (now (w .exit)) r ⌝ }

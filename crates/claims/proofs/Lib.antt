@@ -1,1 +1,3 @@
 pub mod Bench
+pub mod Demand3
+pub mod OneBlock

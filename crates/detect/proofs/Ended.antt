@@ -3,10 +3,15 @@ use mathlib.Core.Path.{_≡_, refl, sym, ap, _∙_, subst}
 use mathlib.Core.Bool.{Bool, true, false, false≢true}
 use mathlib.Core.Logic.{⊎-elim}
 use Prim.Native.Nat.{ℕ, zero, suc, _+_, _-_, _≤_, _<_}
-use native.Mathlib.Nat.{add-zero, add-suc, suc-add, eq-or-lt-of-le, le-refl}
+use native.Mathlib.Nat.{zero-add, add-zero, add-suc, suc-add, eq-or-lt-of-le, le-refl, lt-of-not-le}
 use native.Mathlib.Numerals.{add-one}
 use native.Mathlib.Omega.{arith}
+use mathlib.Core.List.{List}
+use lib.ListN.{length}
 use Rattle.word.specs.Choice.{pick}
+use Rattle.step.specs.declared.Regs.{Regs}
+use Rattle.table.specs.Table.{recordsIn}
+use Rattle.detect.specs.Detect.{selects, marks, foundIn}
 use Rattle.detect.specs.Search.{searchFrom, countOf}
 use Rattle.detect.specs.declared.Found.{Found}
 
@@ -56,3 +61,29 @@ module _ (selected marks : ℕ → Bool) where
           let t : countOf selected i ≡ countOf selected (suc i) = sym (counted i false s ∙ add-zero (countOf selected i)) in
           let n : i + suc m ≡ suc i + m = add-suc i m ∙ sym (suc-add i m) in
           rw (s, t, n) (widen (suc i + m) i (λ u. absurd (false≢true (sym s ∙ u))) r)
+
+  -- marked exactly when some place is selected and marks
+  pub marked-some : {n : ℕ} {f : Found} → Ended n 0 f → f .mark ≡ true → (j : ℕ) × (j < n) × (selected j ≡ true) × (marks j ≡ true)
+  marked-some (hit p a b s m none) e = (p, b, s, m)
+  marked-some (miss none) e = absurd (false≢true e)
+
+  -- and then no later than any such place
+  pub some-marked : {n : ℕ} {f : Found} → Ended n 0 f → (j : ℕ) → j < n → selected j ≡ true → marks j ≡ true → (f .mark ≡ true) × (f .place ≤ j)
+  some-marked (hit p a b s m none) j l t e =
+      let q : p < suc j = lt-of-not-le (λ k. false≢true (sym (none j (omega arith) k t) ∙ e)) in
+      (refl, omega arith)
+  some-marked (miss none) j l t e = absurd (false≢true (sym (none j (omega arith) l t) ∙ e))
+
+  -- nothing is tried where nothing is selected
+  pub none-tried : ((j : ℕ) → selected j ≡ false) → (n i k : ℕ) → searchFrom selected marks i n k ≡ record { mark = false; place = 0; tried = k }
+  unfolding searchFrom
+  none-tried h zero i k = refl
+  none-tried h (suc n) i k = rw (h i) (none-tried h n (suc i) k)
+
+-- the search through a whole table
+pub found-ended : (reduced : Bool) (table : List ℕ) (h : Regs) (w : List ℕ) (mask : ℕ)
+    → Ended (selects mask table) (marks reduced h w table) (recordsIn (length table)) 0 (foundIn reduced table h w mask)
+unfolding foundIn countOf
+found-ended reduced table h w mask =
+    subst (λ (n : ℕ). Ended (selects mask table) (marks reduced h w table) n 0 (foundIn reduced table h w mask)) (zero-add (recordsIn (length table)))
+    (ended (selects mask table) (marks reduced h w table) (recordsIn (length table)) 0)

@@ -1,24 +1,20 @@
 -- The test whether two fives of words are the same says whether they are equal. Assumes nothing.
-use mathlib.Core.Path.{_≡_, refl, sym, ap, _∙_}
-use mathlib.Core.Bool.{Bool, true, false, _&&_, false≢true}
+use mathlib.Core.Path.{_≡_, refl}
+use mathlib.Core.Bool.{true}
 use Prim.Native.Nat.{ℕ}
 use lib.Dec.{eqb}
 use borrow.Author.Tests.{eqb-true, eq-eqb}
+use Rattle.word.proofs.Tests.{both-true}
 use Rattle.step.specs.Step.{sameRegs}
 use Rattle.step.specs.declared.Regs.{Regs}
-
--- both of two tests that are true together
-pub both : (x y : Bool) → (x && y) ≡ true → (x ≡ true) × (y ≡ true)
-both true y e = (refl, e)
-both false y e = absurd (false≢true e)
 
 module _ (s r : Regs) where
   pub same-equal : sameRegs s r ≡ true → s ≡ r
   same-equal e =
-      let p = both (eqb (s .a) (r .a)) _ e in
-      let q = both (eqb (s .b) (r .b)) _ (p .1) in
-      let t = both (eqb (s .c) (r .c)) _ (q .1) in
-      let u = both (eqb (s .d) (r .d)) _ (t .1) in
+      let p = both-true (eqb (s .a) (r .a)) _ e in
+      let q = both-true (eqb (s .b) (r .b)) _ (p .1) in
+      let t = both-true (eqb (s .c) (r .c)) _ (q .1) in
+      let u = both-true (eqb (s .d) (r .d)) _ (t .1) in
       let a : s .a ≡ r .a = eqb-true _ _ (p .0) in
       let b : s .b ≡ r .b = eqb-true _ _ (q .0) in
       let c : s .c ≡ r .c = eqb-true _ _ (t .0) in

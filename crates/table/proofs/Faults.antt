@@ -15,7 +15,7 @@ use Rattle.refusal.specs.declared.Refusal.{Refusal}
 use Rattle.refusal.specs.declared.Refusal.the-variants.{Nothing, TableLength}
 use Rattle.table.specs.Limits.{recordWords, mostRecords}
 use Rattle.table.specs.Table.{recordsIn, recordFault, faultFrom, wholeRecords, tableFault}
-use Rattle.table.proofs.Tests.{unless-true, both-true, one-false, of-either}
+use Rattle.word.proofs.Tests.{unless-true, both-true, one-false, of-either}
 use Rattle.table.proofs.Record.{of-each}
 
 -- the turns of the loop up to record n

@@ -13,7 +13,7 @@ use Rattle.refusal.specs.Refusal.{isNothing}
 use Rattle.refusal.specs.declared.Refusal.the-variants.{Nothing}
 use Rattle.table.specs.Limits.{dmWords, recordWords, mostRecords, maskBits}
 use Rattle.table.specs.Table.{stepsBefore, testtOf, recordsIn, maskNumberAt, testWordAt, dmAt, obeys, recordFault, wholeRecords, tableFault}
-use Rattle.table.proofs.Tests.{unless-false}
+use Rattle.word.proofs.Tests.{unless-false}
 use Rattle.table.proofs.Record.{Known, is-0, no-fault}
 use Rattle.table.proofs.Faults.{GoodBelow, whole-length, not-whole, length-fault, first-bad, all-good}
 

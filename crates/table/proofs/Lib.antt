@@ -1,4 +1,3 @@
-pub mod Tests
 pub mod Rule
 pub mod Record
 pub mod Faults

@@ -14,7 +14,7 @@ use Rattle.refusal.specs.declared.Refusal.{Refusal}
 use Rattle.refusal.specs.declared.Refusal.the-variants.{Nothing, MaskNumber, TestStep, DmRule}
 use Rattle.table.specs.Limits.{dmWords, recordWords, maskBits}
 use Rattle.table.specs.Table.{maskNumberAt, testWordAt, dmAt, obeys, recordFault}
-use Rattle.table.proofs.Tests.{unless-true, one-true, of-either}
+use Rattle.word.proofs.Tests.{unless-true, one-true, of-either}
 
 -- x is one of the two test steps, as a test and as a fact
 abbrev pub known : ℕ → Bool

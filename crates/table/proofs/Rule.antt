@@ -13,7 +13,7 @@ use borrow.Author.Tests.{eq-eqb, ne-eqb, eqb-true}
 use Rattle.word.specs.Rule.{ruleAt}
 use Rattle.table.specs.Limits.{dmWords}
 use Rattle.table.specs.Table.{obeysFrom, obeys}
-use Rattle.table.proofs.Tests.{both-true}
+use Rattle.word.proofs.Tests.{both-true}
 
 -- the turns of the loop up to place n
 module _ (dm : List ℕ) (t n : ℕ) where

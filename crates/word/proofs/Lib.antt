@@ -3,3 +3,5 @@ pub mod Rotate
 pub mod Rounds
 pub mod Sums
 pub mod Xor
+pub mod Tests
+pub mod Words

@@ -1,3 +1,4 @@
+-- `block::begin` meets its contract. The invariant: the compression has been brought from step `from` to step t. Assumes nothing.
 use mathlib.Core.Path.{_≡_, sym, _∙_}
 use Prim.Native.Nat.{_-_, _≤_}
 use borrow.Author.Needs.{needs}
@@ -40,8 +41,13 @@ loop-again : tie.Need-loop-again Inv-loop μ-loop
 loop-again c =
     let k = c .before in
     let l = k .before .before .loop in
-    let word = k .word-at .ensures ∙ sym (list-at _ 16 (l .t) (search needs)) in
-    (search needs, length-set (l .w) (l .t) (k .word-at .result) ∙ l .inv .1, λ h g. stage-load _ h (l .t) (l .w) (l .s) (k .word-at .result) (c .step .result) (l .inv .2 h g) (c .step .ensures) (search needs) word)
+    let x = k .word-at .result in (
+      search needs,
+      length-set (l .w) (l .t) x ∙ l .inv .1,
+      λ h g.
+          stage-load _ h (l .t) (l .w) (l .s) x (c .step .result) (l .inv .2 h g) (c .step .ensures) (search needs)
+          (k .word-at .ensures ∙ sym (list-at _ 16 (l .t) (search needs))),
+    )
 
 same-length : tie.Need-same-length Inv-loop μ-loop
 same-length c = search needs

@@ -1,7 +1,7 @@
+-- `block::compression_plain` meets its contract. Assumes nothing.
 use borrow.Author.Needs.{needs}
 use Rattle.block.specs.Schedule.{wordsOf}
 use Rattle.block.specs.Compress.{compressOf, overSchedule}
-use Rattle.block.specs.Stage.{Stage}
 use Rattle.block.proofs.compression_plain.Statement.{statement}
 use Rattle.block.proofs.compression_plain.Tie as tie
 
@@ -30,10 +30,11 @@ returns c =
     let r2 = r3 .before .before in
     let r1 = r2 .before .before in
     let f = r1 .before .before in
-    let a = f .before .before .before .args in
-    let m = wordsOf (a .block .now) in
-    let g = c .before .run4 .ensures m (a .h) (r3 .run3 .ensures m (a .h) (r2 .run2 .ensures m (a .h) (r1 .run .ensures m (a .h) (f .first-forty .ensures)))) in
-    rw (c .add-regs .ensures, g .regs)
+    let h = f .before .before .before .args .h in
+    let m = wordsOf (f .before .before .before .args .block .now) in
+    let g60 = r2 .run2 .ensures m h (r1 .run .ensures m h (f .first-forty .ensures)) in
+    let g80 = c .before .run4 .ensures m h (r3 .run3 .ensures m h g60) in
+    rw (c .add-regs .ensures, g80 .regs)
 
 pub compression-plain-spec : {M : Type 1} → statement M
 compression-plain-spec =

@@ -1,7 +1,7 @@
+-- `block::compression_states` meets its contract. Assumes nothing.
 use borrow.Author.Needs.{needs}
 use Rattle.block.specs.Schedule.{wordsOf}
 use Rattle.block.specs.Compress.{statesOf, overSchedule}
-use Rattle.block.specs.Stage.{Stage}
 use Rattle.block.proofs.Stages.{stage-end}
 use Rattle.block.proofs.compression_states.Statement.{statement}
 use Rattle.block.proofs.compression_states.Tie as tie
@@ -39,12 +39,12 @@ returns c =
     let r2 = r3 .before .before in
     let r1 = r2 .before .before in
     let f = r1 .before .before in
-    let a = f .before .before .before .args in
-    let m = wordsOf (a .block .now) in
-    let g58 = r2 .run2 .ensures m (a .h) (r1 .run .ensures m (a .h) (f .first-forty .ensures)) in
-    let g65 = r4 .run4 .ensures m (a .h) (r3 .run3 .ensures m (a .h) g58) in
-    let g80 = c .before .run6 .ensures m (a .h) (r5 .run5 .ensures m (a .h) g65) in
-    (stage-end m (a .h) _ _ g80, rw (g58 .regs, g65 .regs, c .add-regs .ensures, g80 .regs))
+    let h = f .before .before .before .args .h in
+    let m = wordsOf (f .before .before .before .args .block .now) in
+    let g58 = r2 .run2 .ensures m h (r1 .run .ensures m h (f .first-forty .ensures)) in
+    let g65 = r4 .run4 .ensures m h (r3 .run3 .ensures m h g58) in
+    let g80 = c .before .run6 .ensures m h (r5 .run5 .ensures m h g65) in
+    (stage-end m h _ _ g80, rw (g58 .regs, g65 .regs, c .add-regs .ensures, g80 .regs))
 
 pub compression-states-spec : {M : Type 1} → statement M
 compression-states-spec =

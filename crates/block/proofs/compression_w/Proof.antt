@@ -1,3 +1,4 @@
+-- `block::compression_w` meets its contract. Assumes nothing.
 use borrow.Author.Needs.{needs}
 use Rattle.step.proofs.Runs.{steps-add}
 use Rattle.block.specs.Compress.{overSchedule}
@@ -23,8 +24,11 @@ returns : tie.Need-returns
 unfolding overSchedule
 returns c =
     let s3 = c .before .before in
-    let a = s3 .before .before .before .args in
-    rw (c .add-regs .ensures, c .before .steps4 .ensures, s3 .steps3 .ensures, s3 .before .steps2 .ensures, s3 .before .before .steps .ensures, steps-add (a .w .now) 60 20 0 (a .h), steps-add (a .w .now) 40 20 0 (a .h), steps-add (a .w .now) 20 20 0 (a .h))
+    let s1 = s3 .before .before in
+    let h = s1 .before .args .h in
+    let w = s1 .before .args .w .now in
+    rw (c .add-regs .ensures, c .before .steps4 .ensures, s3 .steps3 .ensures, s3 .before .steps2 .ensures, s1 .steps .ensures)
+    (rw (steps-add w 60 20 0 h, steps-add w 40 20 0 h, steps-add w 20 20 0 h))
 
 pub compression-w-spec : {M : Type 1} → statement M
 compression-w-spec =

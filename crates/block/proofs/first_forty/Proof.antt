@@ -1,3 +1,5 @@
+-- `block::first_forty` meets its contract: each run brings the compression on. That the array has eighty places is told by its first
+-- loan as a slice. Assumes nothing.
 use borrow.Author.Needs.{needs}
 use Rattle.block.specs.Schedule.{wordsOf}
 use Rattle.block.proofs.Stages.{stage-start}
@@ -21,12 +23,15 @@ run-requires-3 c κs = search needs
 
 returns : tie.Need-returns
 returns c =
-    let b2 = c .before .before .before .before .before .before in
-    let b = b2 .before .before in
-    let a = b .before .before .before in
-    let m = wordsOf (a .args .block .now) in
-    let h = a .args .h in
-    c .run3 .ensures m h (c .before .before .run2 .ensures m h (c .before .before .before .before .run .ensures m h (b2 .begin2 .ensures h (b .begin .ensures h (stage-start m h (a .args .w .now) (b .before .begin-arg .given .0 .1))))))
+    let r2 = c .before .before in
+    let r1 = r2 .before .before in
+    let b2 = r1 .before .before in
+    let b1 = b2 .before .before in
+    let a = b1 .before .before .before .args in
+    let m = wordsOf (a .block .now) in
+    let g0 = stage-start m (a .h) (a .w .now) (b1 .before .begin-arg .given .0 .1) in
+    let g16 = b2 .begin2 .ensures (a .h) (b1 .begin .ensures (a .h) g0) in
+    c .run3 .ensures m (a .h) (r2 .run2 .ensures m (a .h) (r1 .run .ensures m (a .h) g16))
 
 pub first-forty-spec : {M : Type 1} → statement M
 first-forty-spec =

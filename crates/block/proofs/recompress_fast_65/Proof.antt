@@ -1,10 +1,9 @@
-use mathlib.Core.Path.{_≡_, _∙_}
+-- `block::recompress_fast_65` meets its contract. Assumes nothing.
 use native.Mathlib.Omega.{arith}
 use borrow.Author.Needs.{needs}
-use Rattle.step.specs.Step.{stepsOf, undosOf, addRegs, Words}
-use Rattle.step.proofs.Runs.{steps-add, undos-add}
-use Rattle.block.specs.Sibling.{recompressed}
-use Rattle.block.proofs.Back.{steps-left}
+use Rattle.step.specs.Step.{undosOf}
+use Rattle.step.proofs.Runs.{undos-add}
+use Rattle.block.proofs.Back.{recompress-by}
 use Rattle.block.proofs.recompress_fast_65.Statement.{statement}
 use Rattle.block.proofs.recompress_fast_65.Tie as tie
 
@@ -27,18 +26,17 @@ add-regs-requires : tie.Need-add-regs-requires
 add-regs-requires c κs = search needs
 
 returns : tie.Need-returns
-unfolding recompressed
 returns c =
     let u4 = c .before .before in
-    let a = u4 .before .before .before .before in
+    let u2 = u4 .before .before in
+    let a = u2 .before .before in
     let w = a .args .w .now in
     let s = a .args .s in
-    let ws : Words s = omega (arith, a .good) in
-    let start : u4 .undos4 .result ≡ undosOf w 0 65 s =
-    rw (u4 .undos4 .ensures, u4 .before .undos3 .ensures, u4 .before .before .undos2 .ensures, u4 .before .before .before .undos .ensures, undos-add w 60 5 0 s, undos-add w 40 20 0 (undosOf w 60 5 s), undos-add w 20 20 0 (undosOf w 40 20 (undosOf w 60 5 s))) in
-    let out : c .add-regs .result ≡ addRegs (undosOf w 0 65 s) (stepsOf w 65 15 s) =
-    rw (c .add-regs .ensures, start, c .before .steps .ensures) in
-    rw (start, out ∙ steps-left w 65 s (omega arith) ws)
+    let s60 = undosOf w 60 5 s in
+    let s40 = undosOf w 40 20 s60 in
+    recompress-by w 65 s (omega arith) (omega (arith, a .good)) (u4 .undos4 .result) (c .add-regs .result)
+    (rw (u4 .undos4 .ensures, u4 .before .undos3 .ensures, u2 .undos2 .ensures, u2 .before .undos .ensures, undos-add w 60 5 0 s, undos-add w 40 20 0 s60, undos-add w 20 20 0 s40))
+    (rw (c .add-regs .ensures, c .before .steps .ensures))
 
 pub recompress-fast-65-spec : {M : Type 1} → statement M
 recompress-fast-65-spec =

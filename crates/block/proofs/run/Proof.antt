@@ -1,3 +1,4 @@
+-- `block::run` meets its contract. The invariant: every compression has been brought from step `from` to step t. Assumes nothing.
 use mathlib.Core.Path.{_≡_}
 use mathlib.Core.List.{List}
 use Prim.Native.Nat.{ℕ, _-_, _≤_}
@@ -73,8 +74,13 @@ loop-less c = search needs
 loop-again : tie.Need-loop-again Inv-loop μ-loop
 loop-again c =
     let k = c .before in
-    let l = k .before .before .before .before .before .before .loop in
-    (search needs, search needs, λ m h g. stage-rule m h (l .t) (l .w) (l .s) (k .mix .result) (c .step .result) (l .inv .2 m h g) (c .step .ensures) (search needs) (search needs) (k .mix .ensures))
+    let l = k .before .before .before .before .before .before .loop in (
+      search needs,
+      search needs,
+      λ m h g.
+          stage-rule m h (l .t) (l .w) (l .s) (k .mix .result) (c .step .result) (l .inv .2 m h g) (c .step .ensures)
+          (search needs) (search needs) (k .mix .ensures),
+    )
 
 returns : tie.Need-returns Inv-loop μ-loop
 returns c =

@@ -1,5 +1,5 @@
 -- `block::sibling` meets its contract. Assumes nothing.
-use mathlib.Core.Path.{_≡_, refl}
+use mathlib.Core.Path.{refl}
 use Prim.Native.Nat.{_-_}
 use lib.Bits.{bitXor}
 use lib.ListN.{getD}

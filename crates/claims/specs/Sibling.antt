@@ -1,0 +1,43 @@
+-- Demand 3 in the words of FIPS 180-4: the sibling block, and the start from which it meets the block.
+use mathlib.Core.Path.{_≡_}
+use mathlib.Core.Bool.{true}
+use mathlib.Core.List.{List}
+use Prim.Native.Nat.{ℕ, _<_}
+use lib.ListN.{length}
+use Rattle.word.specs.Lists.{xorWords}
+use Rattle.step.specs.Step.{stepsOf, Words}
+use Rattle.step.specs.declared.Regs.{Regs}
+use Rattle.block.specs.Schedule.{wordsOf, scheduleOf}
+use Rattle.block.specs.Compress.{overSchedule, compressOf}
+use Rattle.table.specs.Table.{recordsIn, testWordAt, dmAt}
+use Rattle.detect.specs.Detect.{selects}
+
+-- the sixteen words of the sibling block by record i: the block's own, `xor` the record's first sixteen difference words
+abbrev pub siblingWords : List ℕ → List ℕ → ℕ → List ℕ
+siblingWords block table i = xorWords 16 (wordsOf block) (dmAt table i)
+
+-- the state after the steps before record i's test step, from the start s, of the block with these sixteen words
+abbrev pub atTest : List ℕ → List ℕ → ℕ → Regs → Regs
+atTest words table i s = stepsOf (scheduleOf words) 0 (testWordAt table i) s
+
+-- from the start s the sibling reaches the block's own state at the test step
+abbrev pub Reaches : Regs → List ℕ → List ℕ → ℕ → Regs → Type 0
+Reaches h block table i s = atTest (siblingWords block table i) table i s ≡ atTest (wordsOf block) table i h
+
+-- from the start s the sibling ends in the block's output before mitigation
+abbrev pub EndsAlike : Regs → List ℕ → List ℕ → ℕ → Regs → Type 0
+EndsAlike h block table i s = overSchedule s (scheduleOf (siblingWords block table i)) ≡ compressOf h block
+
+-- a five-word start from which the sibling by record i does both
+pub record Meets (h : Regs) (block table : List ℕ) (i : ℕ) : Type 0 where
+  pub start : Regs
+  pub words : Words start
+  pub reaches : Reaches h block table i start
+  pub ends : EndsAlike h block table i start
+
+-- a record of the table that the mask selects, and by which the sibling meets the block
+pub record Met (h : Regs) (block table : List ℕ) (mask : ℕ) : Type 0 where
+  pub place : ℕ
+  pub inside : place < recordsIn (length table)
+  pub selected : selects mask table place ≡ true
+  pub meets : Meets h block table place

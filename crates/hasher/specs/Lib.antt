@@ -1,2 +1,0 @@
-pub mod Hasher
-pub mod Ready

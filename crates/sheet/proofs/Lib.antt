@@ -1,0 +1,5 @@
+pub mod Bytes
+pub mod First
+pub mod Parts
+pub mod Answers
+pub mod Numbers

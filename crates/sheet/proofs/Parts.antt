@@ -1,0 +1,60 @@
+-- The part that a lookup hands back: where it begins, which bytes it has, and where it lies. Assumes nothing.
+use mathlib.Core.Path.{_≡_, refl, sym, ap, _∙_}
+use mathlib.Core.Bool.{Bool, true, false, not, and-false}
+use mathlib.Core.List.{List, []}
+use Prim.Native.Nat.{ℕ, _+_, _-_, _*_, _≤_, _<_}
+use native.Mathlib.Nat.{add-sub-cancel-left, sub-self}
+use native.Mathlib.Omega.{arith}
+use lib.ListN.{length, take, drop, length-drop}
+use lib.Seq.{drop-length, length-take-le}
+use denote.Ref.{RefT, now}
+use borrow.Author.Tests.{not-true, not-false, lt-ltb, le-ltb}
+use Rattle.refusal.specs.Refusal.{isNothing}
+use Rattle.refusal.specs.declared.Refusal.{Refusal}
+use Rattle.sheet.specs.Sheet.{barcodeSize, digestSize, recordSize, digestAt, recordsOn, recordFor}
+use Rattle.sheet.specs.Sheet.{lookupRefusal, partFrom, partOf, placeIn}
+
+-- a record's digest has no byte missing
+pub digest-length : (s : List ℕ) (k : ℕ) → k < recordsOn s → length (digestAt s k) ≡ digestSize
+digest-length s k l =
+    let from = recordSize * k + barcodeSize in
+    length-take-le digestSize (drop from s) (rw (length-drop from s) (omega arith))
+
+-- where the part begins, by what the code has found out: whether nothing is refused, and the record's place
+module _ (s c : List ℕ) where
+  module _ {r : Refusal} {b : Bool} (e : r ≡ lookupRefusal s c) (g : b ≡ isNothing r) where
+    pub tested : isNothing (lookupRefusal s c) ≡ b
+    tested = sym (g ∙ ap isNothing e)
+
+    pub refused-from : not b ≡ true → partFrom s c ≡ length s
+    unfolding partFrom
+    refused-from h = rw (tested, not-true b h)
+
+    pub found-from : not b ≡ false → {k : ℕ} → k ≡ recordFor s c → k < recordsOn s
+        → partFrom s c ≡ recordSize * k + barcodeSize
+    unfolding partFrom
+    found-from h {k} f l = rw (tested, not-false b h, ← f, lt-ltb k (recordsOn s) l)
+
+  pub absent-from : {k : ℕ} → k ≡ recordFor s c → recordsOn s ≤ k → partFrom s c ≡ length s
+  unfolding partFrom
+  absent-from {k} f l = rw (← f, le-ltb k (recordsOn s) l, and-false (isNothing (lookupRefusal s c)))
+
+  -- the part is the digest of the record found, or empty
+  pub part-found : isNothing (lookupRefusal s c) ≡ true → recordFor s c < recordsOn s → partOf s c ≡ digestAt s (recordFor s c)
+  part-found h l = rw (found-from refl refl (ap not h) refl l)
+
+  pub part-at-end : partFrom s c ≡ length s → partOf s c ≡ []
+  part-at-end e = rw (e, drop-length s)
+
+-- the bytes and the place, for the two ways in which the code cuts a part out
+module _ (sheet : RefT (List ℕ)) (c : List ℕ) where
+  abbrev s : List ℕ
+  s = now sheet
+
+  pub at-end : partFrom s c ≡ length s
+      → (take (length s - length s) (drop (length s) s) ≡ partOf s c) × (placeIn sheet (length s) ≡ placeIn sheet (partFrom s c))
+  at-end e = (rw (e, drop-length s, sub-self (length s)), ap (placeIn sheet) (sym e))
+
+  pub at-digest : (from : ℕ) → partFrom s c ≡ from
+      → (take (from + digestSize - from) (drop from s) ≡ partOf s c) × (placeIn sheet from ≡ placeIn sheet (partFrom s c))
+  at-digest from e = (rw (e, add-sub-cancel-left from digestSize), ap (placeIn sheet) (sym e))

@@ -1,0 +1,33 @@
+-- What a comparison with the sheet says. 01, "The barcode sheet and the program".
+use mathlib.Core.Bool.{not}
+use mathlib.Core.List.{List, [], _∷_}
+use Prim.Native.Nat.{ℕ}
+use Rattle.word.specs.Choice.{pick}
+use Rattle.refusal.specs.Refusal.{numberOf, isNothing}
+use Rattle.verdict.specs.declared.Verdict.{Verdict}
+use Rattle.sheet.specs.Sheet.{sameBytes, onSheet, lookupRefusal, partOf}
+use Rattle.sheet.specs.declared.Comparison.{Comparison}
+use Rattle.sheet.specs.declared.Comparison.the-variants.{Match, Differs, Absent}
+use Rattle.sheet.specs.declared.Compared.{Compared}
+use Rattle.sheet.specs.declared.Compared.the-variants.{Said, Refused}
+
+-- the word that stands for an answer, in ASCII: `match`, `differs`, `absent`
+abbrev pub comparisonWord : Comparison → List ℕ
+comparisonWord Match = 0x6D ∷ 0x61 ∷ 0x74 ∷ 0x63 ∷ 0x68 ∷ []
+comparisonWord Differs = 0x64 ∷ 0x69 ∷ 0x66 ∷ 0x66 ∷ 0x65 ∷ 0x72 ∷ 0x73 ∷ []
+comparisonWord Absent = 0x61 ∷ 0x62 ∷ 0x73 ∷ 0x65 ∷ 0x6E ∷ 0x74 ∷ []
+
+-- the number that a comparison gives back, in the table of 01; 0 where it has an answer
+abbrev pub comparedNumber : Compared → ℕ
+comparedNumber (Said a) = 0
+comparedNumber (Refused r) = numberOf r
+
+-- the answer where nothing is refused: whether the digest is the one on the sheet, whatever the verdict
+abbrev pub comparisonOf : List ℕ → List ℕ → Verdict → List ℕ → Comparison
+comparisonOf sheet code verdict digest =
+    pick (onSheet sheet code) (pick (sameBytes (partOf sheet code) digest) Match Differs) Absent
+
+-- what a comparison gives back
+unfoldable pub comparedOf : List ℕ → List ℕ → Verdict → List ℕ → Compared
+comparedOf sheet code verdict digest =
+    pick (not (isNothing (lookupRefusal sheet code))) (Refused (lookupRefusal sheet code)) (Said (comparisonOf sheet code verdict digest))

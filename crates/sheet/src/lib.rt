@@ -1,0 +1,112 @@
+// The barcode sheet: looking a digest up by its barcode, and comparing one with it. A record is 32 bytes, a barcode
+// and then a digest, and a sheet has no header.
+ghost use mathlib.Core.Path.{_≡_};
+ghost use denote.Ref.{ptr};
+ghost use Rattle.sheet.specs.Sheet.{sameBytes, recordFor, lookupRefusal, partFrom, partOf, placeIn};
+ghost use Rattle.sheet.specs.Compare.{comparedOf};
+use refusal::Refusal;
+use refusal::is_nothing;
+use verdict::Verdict;
+
+// Bytes in a barcode, in a digest, and in a record.
+pub const BARCODE_SIZE: usize = 12;
+
+pub const DIGEST_SIZE: usize = 20;
+
+pub const RECORD_SIZE: usize = BARCODE_SIZE + DIGEST_SIZE;
+
+// What a comparison answers.
+pub enum Comparison {
+    // The digest is the one on the sheet.
+    Match,
+    // The sheet has another digest for the barcode.
+    Differs,
+    // No record has the barcode.
+    Absent,
+}
+
+// An answer, or why there is none.
+pub enum Compared {
+    Said(Comparison),
+    Refused(Refusal),
+}
+
+// Whether x and y have the same bytes.
+pub fn same_bytes(x: &[u8], y: &[u8]) -> bool
+    ensures { λ r. ⌜ r ≡ sameBytes (now (x .entry)) (now (y .entry)) ⌝ }
+{
+    if x.len() != y.len() {
+        return false;
+    }
+    for i in 0..x.len() {
+        if x[i] != y[i] {
+            return false;
+        }
+    }
+    true
+}
+
+// The place of the first record with the barcode, or the number of records where none has it.
+fn first_with(sheet: &[u8], code: &[u8]) -> usize
+    ensures { λ r. ⌜ r ≡ recordFor (now (sheet .entry)) (now (code .entry)) ⌝ }
+{
+    let n = sheet.len() / RECORD_SIZE;
+    for k in 0..n {
+        let at = RECORD_SIZE * k;
+        let end = at + BARCODE_SIZE;
+        if same_bytes(&sheet[at..end], code) {
+            return k;
+        }
+    }
+    n
+}
+
+// What a lookup of this barcode on this sheet refuses.
+pub fn lookup_refusal(sheet: &[u8], code: &[u8]) -> Refusal
+    ensures { λ r. ⌜ r ≡ lookupRefusal (now (sheet .entry)) (now (code .entry)) ⌝ }
+{
+    if code.len() != BARCODE_SIZE {
+        return Refusal::Size;
+    }
+    if sheet.len() % RECORD_SIZE != 0 {
+        return Refusal::SheetLength;
+    }
+    Refusal::Nothing
+}
+
+// The digest of the first record with the barcode, or the empty part at the sheet's end: in both cases the sheet's
+// own bytes, not a copy.
+pub fn lookup<'a>(sheet: &'a [u8], code: &[u8]) -> &'a [u8]
+    ensures bytes { λ r. ⌜ now r ≡ partOf (now (sheet .entry)) (now (code .entry)) ⌝ }
+    ensures place { λ r. ⌜ ptr r ≡ placeIn (sheet .entry) (partFrom (now (sheet .entry)) (now (code .entry))) ⌝ }
+{
+    let n = sheet.len();
+    if !is_nothing(lookup_refusal(sheet, code)) {
+        return &sheet[n..];
+    }
+    let k = first_with(sheet, code);
+    if k < n / RECORD_SIZE {
+        let from = RECORD_SIZE * k + BARCODE_SIZE;
+        let to = from + DIGEST_SIZE;
+        return &sheet[from..to];
+    }
+    &sheet[n..]
+}
+
+// Compares a digest with the one that the sheet has for the barcode, whatever the verdict.
+pub fn compare(sheet: &[u8], code: &[u8], verdict: Verdict, digest: [u8; DIGEST_SIZE]) -> Compared
+    ensures { λ r. ⌜ r ≡ comparedOf (now (sheet .entry)) (now (code .entry)) verdict digest ⌝ }
+{
+    let refusal = lookup_refusal(sheet, code);
+    if !is_nothing(refusal) {
+        return Compared::Refused(refusal);
+    }
+    let part = lookup(sheet, code);
+    if part.len() == 0 {
+        return Compared::Said(Comparison::Absent);
+    }
+    if same_bytes(part, &digest) {
+        return Compared::Said(Comparison::Match);
+    }
+    Compared::Said(Comparison::Differs)
+}

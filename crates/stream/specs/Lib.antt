@@ -1,3 +1,0 @@
-pub mod Fips
-pub mod Flags
-pub mod Fold

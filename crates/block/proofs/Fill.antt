@@ -1,13 +1,14 @@
 -- Lists of the values of a function: their elements, and an array that is filled with them from the front. Assumes nothing.
 use mathlib.Core.Path.{_≡_, refl, sym, ap, _∙_, subst}
+use mathlib.Core.Logic.{⊎-elim}
 use mathlib.Core.List.{List, [], _∷_, _++_}
 use Prim.Native.Nat.{ℕ, zero, suc, _+_, _≤_, _<_}
-use native.Mathlib.Nat.{not-suc-le-zero}
+use native.Mathlib.Nat.{not-suc-le-zero, eq-or-lt-of-le}
 use native.Mathlib.Numerals.{add-one}
 use native.Mathlib.Omega.{arith}
 use borrow.Author.Count.{below-more}
 use lib.ListN.{length, getD, take, set, length-set, length-append, List·getD-append}
-use lib.Seq.{take-suc-set, take-all, getD-at}
+use lib.Seq.{take-suc-set, take-all, getD-at, take-append-le}
 use Rattle.word.specs.Lists.{listOf}
 
 pub list-length : (f : ℕ → ℕ) (n : ℕ) → length (listOf f n) ≡ n
@@ -22,6 +23,15 @@ list-at f (suc n) i h =
     below-more (λ (k : ℕ). getD (listOf f n ++ (f n ∷ [])) k 0 ≡ f k) n
     (λ k l. List·getD-append (listOf f n) (f n ∷ []) 0 k (rw (list-length f n) l) ∙ list-at f n k l)
     (getD-at (listOf f n) (f n) [] 0 n (list-length f n)) i (omega arith)
+
+pub list-take : (f : ℕ → ℕ) (n k : ℕ) → k ≤ n → take k (listOf f n) ≡ listOf f k
+unfolding listOf
+list-take f zero k h =
+    let e : k ≡ 0 = omega arith in
+    rw e
+list-take f (suc n) k h =
+    ⊎-elim (λ e. rw e (take-all (suc n) (listOf f (suc n)) (omega (arith, list-length f (suc n)))))
+    (λ l. take-append-le k (listOf f n) (f n ∷ []) (omega (arith, list-length f n)) ∙ list-take f n k (omega arith)) (eq-or-lt-of-le h)
 
 -- the first i of n places have the values of f
 pub record Filled (f : ℕ → ℕ) (n : ℕ) (v : List ℕ) (i : ℕ) : Type 0 where

@@ -106,8 +106,9 @@ module _ (h : Regs) (block table : List ℕ) (hw : Words h) (bytes : AllBytes bl
     unfolding answerOf
     marked-exactly =
         let d = scheduleOf (wordsOf block) in
-        let e = found-ended (mode .reduced) table h d mask in
-        (λ m. let f = marked-some _ _ e m in
-        record { place = f .0; inside = f .1; selected = f .2; meets = marks-meets (f .0) (good .each (f .0) (f .1)) (subst (λ (r : Bool). marks r h d table (f .0) ≡ true) off (f .3)) },
-        λ m. some-marked _ _ e (m .place) (m .inside) (m .selected)
-        (subst (λ (r : Bool). marks r h d table (m .place) ≡ true) (sym off) (meets-marks (m .place) (good .each (m .place) (m .inside)) (m .meets))) .0)
+        let e = found-ended (mode .reduced) table h d mask in (
+          λ m. let f = marked-some _ _ e m in
+              record { place = f .0; inside = f .1; selected = f .2; meets = marks-meets (f .0) (good .each (f .0) (f .1)) (subst (λ (r : Bool). marks r h d table (f .0) ≡ true) off (f .3)) },
+          λ m. some-marked _ _ e (m .place) (m .inside) (m .selected)
+              (subst (λ (r : Bool). marks r h d table (m .place) ≡ true) (sym off) (meets-marks (m .place) (good .each (m .place) (m .inside)) (m .meets))) .0,
+        )

@@ -1,7 +1,7 @@
 -- What is wrong with a table: its length, else its first bad record. Assumes nothing.
 use mathlib.Core.Path.{_≡_, sym, ap, _∙_}
 use mathlib.Core.Logic.{_⊎_, ⊎-elim, ⊎-map, _↔_}
-use mathlib.Core.Bool.{true, false}
+use mathlib.Core.Bool.{true, false, not}
 use mathlib.Core.List.{List}
 use Prim.Native.Nat.{ℕ, zero, suc, _+_, _-_, _*_, _%_, _≤_, _<_}
 use native.Mathlib.Nat.{sub-zero}
@@ -12,7 +12,7 @@ use lib.ListN.{length}
 use borrow.Author.Tests.{ltb-true, leb-true, eqb-true, ltb-false, leb-false, eqb-false}
 use Rattle.refusal.specs.Refusal.{numberOf, isNothing}
 use Rattle.refusal.specs.declared.Refusal.{Refusal}
-use Rattle.refusal.specs.declared.Refusal.the-variants.{Nothing, TableLength}
+use Rattle.refusal.specs.declared.Refusal.the-variants.{Nothing, TableLength, MaskNumber, TestStep, DmRule}
 use Rattle.table.specs.Limits.{recordWords, mostRecords}
 use Rattle.table.specs.Table.{recordsIn, recordFault, faultFrom, wholeRecords, tableFault}
 use Rattle.word.proofs.Tests.{unless-true, both-true, one-false, of-either}
@@ -67,18 +67,24 @@ module _ (table : List ℕ) where
   unfolding tableFault
   records-fault w = rw (w, sub-zero (recordsIn (length table)))
 
-  -- no record's fault is the length
-  not-length : (n i : ℕ) → numberOf (faultFrom table i n) ≡ 2 → ⊥
+  -- what holds of each fault that a record can have holds of the first
+  of-first : (P : Refusal → Type 0) → P Nothing → ((k : ℕ) → P (MaskNumber k)) → ((k : ℕ) → P (TestStep k)) → ((k : ℕ) → P (DmRule k))
+      → (n i : ℕ) → P (faultFrom table i n)
   unfolding faultFrom
-  not-length zero i = λ e. omega arith
-  not-length (suc n) i =
-      of-either (λ (r : Refusal). numberOf r ≡ 2 → ⊥) (isNothing (recordFault table i)) _ _ (not-length n (suc i))
-      (of-each table i (λ (r : Refusal). numberOf r ≡ 2 → ⊥) (λ e. omega arith) (λ e. omega arith) (λ e. omega arith) (λ e. omega arith))
+  of-first P o m t d zero i = o
+  of-first P o m t d (suc n) i =
+      of-either P (isNothing (recordFault table i)) _ _ (of-first P o m t d n (suc i)) (of-each table i P (m i) (t i) (d i) o)
+
+  -- and with the length, of the table's fault
+  pub of-fault : (P : Refusal → Type 0) → P Nothing → P TableLength → ((k : ℕ) → P (MaskNumber k)) → ((k : ℕ) → P (TestStep k))
+      → ((k : ℕ) → P (DmRule k)) → P (tableFault table)
+  unfolding tableFault
+  of-fault P o l m t d = of-either P (not (wholeRecords (length table))) _ _ l (of-first P o m t d (recordsIn (length table)) 0)
 
   -- the length is what is wrong exactly when it is 0, above the most, or no whole number of records
   pub is-2 : (numberOf (tableFault table) ≡ 2) ↔ BadLength (length table)
   is-2 = (
-    λ e. not-whole (length table) .0 (unless-true _ (λ w. not-length _ 0 (ap numberOf (sym (records-fault w)) ∙ e))),
+    λ e. not-whole (length table) .0 (unless-true _ (λ w. of-first (λ r. numberOf r ≡ 2 → ⊥) (λ z. omega arith) (λ k z. omega arith) (λ k z. omega arith) (λ k z. omega arith) _ 0 (ap numberOf (sym (records-fault w)) ∙ e))),
     λ b. ap numberOf (length-fault (not-whole (length table) .1 b)),
   )
 

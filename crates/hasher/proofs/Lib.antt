@@ -1,0 +1,3 @@
+pub mod Zeros
+pub mod Moves
+pub mod Formed

@@ -1,0 +1,59 @@
+-- Lists of zeros, and lists that end in them. Assumes nothing.
+use mathlib.Core.Path.{_≡_, refl, sym, ap, _∙_}
+use mathlib.Core.Bool.{Bool, true, false, _&&_}
+use mathlib.Core.List.{List, [], _∷_}
+use Prim.Native.Nat.{ℕ, zero, suc, _+_, _-_, _≤_, _<_}
+use native.Mathlib.Nat.{not-suc-le-zero, le-of-suc-le-suc}
+use native.Mathlib.Numerals.{add-one}
+use native.Mathlib.Omega.{arith}
+use borrow.Author.Tests.{eq-eqb, ne-eqb, eqb-true}
+use lib.Dec.{eqb}
+use lib.ListN.{length, getD, take, drop, replicate, drop-of-length-le}
+use lib.Seq.{drop-cons}
+use Rattle.hasher.specs.Hasher.{allZero}
+
+pub zero-nil : allZero [] ≡ true
+unfolding allZero
+zero-nil = refl
+
+pub zero-cons : (x : ℕ) (xs : List ℕ) → allZero (x ∷ xs) ≡ (eqb x 0 && allZero xs)
+unfolding allZero
+zero-cons x xs = refl
+
+-- the turns of a loop that looks for a byte that is not zero, and its end
+module _ (p : List ℕ) (i : ℕ) where
+  pub zero-stop : i < length p → (getD p i 0 ≡ 0 → ⊥) → allZero (drop i p) ≡ false
+  zero-stop h n = rw (drop-cons p i 0 h, zero-cons, ne-eqb (getD p i 0) 0 n)
+
+  pub zero-step : i < length p → getD p i 0 ≡ 0 → allZero (drop (i + 1) p) ≡ allZero (drop i p)
+  zero-step h e = rw (drop-cons p i 0 h, zero-cons, eq-eqb (getD p i 0) 0 e, add-one i)
+
+  pub zero-end : length p ≤ i → allZero (drop i p) ≡ true
+  zero-end h = rw (drop-of-length-le p h, zero-nil)
+
+-- both of two tests
+pub both : (a b : Bool) → (a && b) ≡ true → (a ≡ true) × (b ≡ true)
+both true b e = (refl, e)
+both false b e = let z : true ≡ false = sym e in (sym z, cc)
+
+-- what is all zero is a list of zeros, and the other way round
+pub zero-all : (xs : List ℕ) → allZero xs ≡ true → xs ≡ replicate (length xs) 0
+zero-all [] h = refl
+zero-all (x ∷ xs) h =
+    let g = both (eqb x 0) (allZero xs) (rw (zero-cons x xs) at h) in
+    ap (λ (y : ℕ). y ∷ xs) (eqb-true x 0 (g .0)) ∙ ap (λ (ys : List ℕ). 0 ∷ ys) (zero-all xs (g .1))
+
+pub zeros-are : (n : ℕ) → allZero (replicate n 0) ≡ true
+zeros-are zero = zero-nil
+zeros-are (suc n) = rw zero-cons (zeros-are n)
+
+-- the first of equal numbers, and those after them
+pub take-replicate : (n m a : ℕ) → n ≤ m → take n (replicate m a) ≡ replicate n a
+take-replicate zero m a h = refl
+take-replicate (suc n) zero a h = absurd (not-suc-le-zero h)
+take-replicate (suc n) (suc m) a h = ap (λ (l : List ℕ). a ∷ l) (take-replicate n m a (le-of-suc-le-suc h))
+
+pub drop-replicate : (n m a : ℕ) → drop n (replicate m a) ≡ replicate (m - n) a
+drop-replicate zero m a = let e : m - zero ≡ m = omega arith in rw e
+drop-replicate (suc n) zero a = let e : zero - suc n ≡ zero = omega arith in rw e
+drop-replicate (suc n) (suc m) a = let e : suc m - suc n ≡ m - n = omega arith in rw e (drop-replicate n m a)

@@ -1,0 +1,3 @@
+pub mod Fips
+pub mod Flags
+pub mod Fold

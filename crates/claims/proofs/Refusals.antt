@@ -4,7 +4,7 @@ use mathlib.Core.Path.{_≡_, refl, sym, ap, _∙_}
 use mathlib.Core.Logic.{_↔_, _⊎_, inl, inr, ⊎-elim}
 use mathlib.Core.Bool.{Bool, true, false, not, _&&_, false≢true}
 use mathlib.Core.List.{List}
-use Prim.Native.Nat.{ℕ, _+_, _≤_, _<_}
+use Prim.Native.Nat.{ℕ, _+_, _/_, _%_, _≤_, _<_}
 use native.Mathlib.Omega.{arith}
 use borrow.Author.Tests.{ltb-true, ltb-false, lt-ltb, le-ltb, eqb-true, eqb-false, eq-eqb, ne-eqb, not-true, not-false}
 use lib.Dec.{ltb, eqb}
@@ -23,6 +23,8 @@ use Rattle.stream.specs.declared.Flags.{Flags}
 use Rattle.hasher.specs.Hasher.{mostBytes, wellFormed, taken, blocksFilled, masksWrong, tableRefusal, updateRefusal, updated, freshOf, resetOf}
 use Rattle.hasher.specs.declared.Hasher.{Hasher}
 use Rattle.hasher.specs.declared.Updated.{Updated}
+use Rattle.finish.specs.Finish.{digestSize, tailBlocks, finishRefusal, finished, closed, writtenOut, oneShotRefusal, digested}
+use Rattle.finish.specs.declared.Outcome.the-variants.{Refused}
 
 -- the numbers that a table can give: 2 to 5
 abbrev pub OfTable : ℕ → Type 0
@@ -125,3 +127,89 @@ module _ (h : Hasher) where
   pub reset-refused : wellFormed h ≡ false → resetOf h ≡ record { refusal = HasherForm; hasher = h }
   unfolding resetOf
   reset-refused e = rw e
+
+-- finish: 1, 8, 6, then the table. A finish by value has an output of its own, of 20 bytes; finish-and-reset is lent one.
+abbrev pub missized : ℕ → Bool
+missized size = not (eqb size digestSize)
+
+abbrev pub lastMiscounted : Hasher → List ℕ → Bool
+lastMiscounted h masks = masksWrong (h .flags) (length masks) (tailBlocks (h .fill))
+
+module _ (h : Hasher) (size : ℕ) (table masks : List ℕ) where
+  pub finish-1 : (numberOf (finishRefusal h size table masks) ≡ 1) ↔ (unformed h ≡ true)
+  unfolding finishRefusal
+  finish-1 =
+      first-exactly (unformed h) HasherForm _ 1 refl
+      (never (missized size) Size _ 1 (λ e. omega arith) (never (lastMiscounted h masks) MaskCount _ 1 (λ e. omega arith) (table-one (h .flags) table)))
+
+  pub finish-8 : (numberOf (finishRefusal h size table masks) ≡ 8) ↔ ((unformed h ≡ false) × (missized size ≡ true))
+  unfolding finishRefusal
+  finish-8 =
+      later-exactly (unformed h) HasherForm _ 8 (missized size ≡ true) (λ e. omega arith)
+      (first-exactly (missized size) Size _ 8 refl (never (lastMiscounted h masks) MaskCount _ 8 (λ e. omega arith) (table-other (h .flags) table 8 (omega arith))))
+
+  pub finish-6 : (numberOf (finishRefusal h size table masks) ≡ 6) ↔ ((unformed h ≡ false) × ((missized size ≡ false) × (lastMiscounted h masks ≡ true)))
+  unfolding finishRefusal
+  finish-6 =
+      later-exactly (unformed h) HasherForm _ 6 ((missized size ≡ false) × (lastMiscounted h masks ≡ true)) (λ e. omega arith)
+      (later-exactly (missized size) Size _ 6 (lastMiscounted h masks ≡ true) (λ e. omega arith)
+      (first-exactly (lastMiscounted h masks) MaskCount _ 6 refl (table-other (h .flags) table 6 (omega arith))))
+
+  pub finish-table : (n : ℕ) → OfTable n → (numberOf (finishRefusal h size table masks) ≡ n)
+      ↔ ((unformed h ≡ false) × ((missized size ≡ false) × ((lastMiscounted h masks ≡ false) × ((h .flags .detect ≡ true) × (numberOf (tableFault table) ≡ n)))))
+  unfolding finishRefusal
+  finish-table n t =
+      let a = t .0 in
+      let b = t .1 in
+      later-exactly (unformed h) HasherForm _ n _ (λ e. omega arith)
+      (later-exactly (missized size) Size _ n _ (λ e. omega arith)
+      (later-exactly (lastMiscounted h masks) MaskCount _ n _ (λ e. omega arith) (table-exactly (h .flags) table n t)))
+
+-- a refused finish gives no verdict and zeros, and the hasher as it was
+pub finish-refused : (h : Hasher) (table masks : List ℕ) → isNothing (finishRefusal h digestSize table masks) ≡ false
+    → finished h table masks ≡ record { outcome = Refused (finishRefusal h digestSize table masks); digest = replicate digestSize 0; hasher = h }
+unfolding finished
+finish-refused h table masks e = rw e
+
+-- a refused finish-and-reset gives no verdict, the hasher as it was, and writes nothing
+pub close-refused : (h : Hasher) (out table masks : List ℕ) → isNothing (finishRefusal h (length out) table masks) ≡ false
+    → (closed h (length out) table masks ≡ record { outcome = Refused (finishRefusal h (length out) table masks); hasher = h })
+    × (writtenOut h out table masks ≡ out)
+unfolding closed writtenOut
+close-refused h out table masks e = (rw e, rw e)
+
+-- one-shot: 7, 6, then the table
+abbrev pub shotLong : ℕ → Bool
+shotLong n = ltb mostBytes n
+
+abbrev pub shotMiscounted : ℕ → List ℕ → Bool
+shotMiscounted n masks = not (eqb (length masks) (n / 64 + tailBlocks (n % 64)))
+
+module _ (n : ℕ) (table masks : List ℕ) where
+  none-other : (k : ℕ) → 5 < k → numberOf (tableFault table) ≡ k → ⊥
+  none-other k l e = ⊎-elim (λ z. omega arith) (λ t. let a = t .1 in omega arith) (table-number table k e)
+
+  pub shot-7 : (numberOf (oneShotRefusal n table masks) ≡ 7) ↔ (shotLong n ≡ true)
+  unfolding oneShotRefusal
+  shot-7 = first-exactly (shotLong n) MessageLength _ 7 refl (never (shotMiscounted n masks) MaskCount _ 7 (λ e. omega arith) (none-other 7 (omega arith)))
+
+  pub shot-6 : (numberOf (oneShotRefusal n table masks) ≡ 6) ↔ ((shotLong n ≡ false) × (shotMiscounted n masks ≡ true))
+  unfolding oneShotRefusal
+  shot-6 =
+      later-exactly (shotLong n) MessageLength _ 6 (shotMiscounted n masks ≡ true) (λ e. omega arith)
+      (first-exactly (shotMiscounted n masks) MaskCount _ 6 refl (none-other 6 (omega arith)))
+
+  pub shot-table : (k : ℕ) → OfTable k
+      → (numberOf (oneShotRefusal n table masks) ≡ k) ↔ ((shotLong n ≡ false) × ((shotMiscounted n masks ≡ false) × (numberOf (tableFault table) ≡ k)))
+  unfolding oneShotRefusal
+  shot-table k t =
+      let a = t .0 in
+      let b = t .1 in
+      later-exactly (shotLong n) MessageLength _ k _ (λ e. omega arith)
+      (later-exactly (shotMiscounted n masks) MaskCount _ k _ (λ e. omega arith) (λ e. e, λ e. e))
+
+-- a refused one-shot gives no verdict and zeros
+pub shot-refused : (bytes table masks : List ℕ) → isNothing (oneShotRefusal (length bytes) table masks) ≡ false
+    → digested bytes table masks ≡ record { outcome = Refused (oneShotRefusal (length bytes) table masks); digest = replicate digestSize 0 }
+unfolding digested
+shot-refused bytes table masks e = rw e

@@ -1,1 +1,4 @@
 pub mod Sibling
+pub mod Sound
+pub mod Pieces
+pub mod Marked

@@ -13,7 +13,7 @@ use Rattle.refusal.specs.declared.Refusal.{Refusal}
 use Rattle.refusal.specs.declared.Refusal.the-variants.{Nothing, HasherForm, TableLength, MaskNumber, TestStep, DmRule, MaskCount, MessageLength, Size, SheetLength}
 use Rattle.hasher.specs.Hasher.{allZero, mostBytes, mostBlocks, wellFormed, taken, blocksFilled, masksWrong, tableRefusal, updateRefusal}
 use Rattle.hasher.specs.declared.Hasher.{Hasher}
-use Rattle.hasher.proofs.Zeros.{both}
+use Rattle.word.proofs.Tests.{both-true}
 
 pub record Formed (h : Hasher) : Type 0 where
   pub fill-le : h .fill ≤ 63
@@ -24,9 +24,9 @@ pub record Formed (h : Hasher) : Type 0 where
 pub formed : (h : Hasher) → wellFormed h ≡ true → Formed h
 unfolding wellFormed
 formed h e =
-    let p = both (leb (h .fill) 63) _ e in
-    let q = both (leb (h .blocks) mostBlocks) _ (p .1) in
-    let r = both (allZero (drop (h .fill) (h .pending))) _ (q .1) in
+    let p = both-true (leb (h .fill) 63) _ e in
+    let q = both-true (leb (h .blocks) mostBlocks) _ (p .1) in
+    let r = both-true (allZero (drop (h .fill) (h .pending))) _ (q .1) in
     record { fill-le = leb-true _ _ (p .0); blocks-le = leb-true _ _ (q .0); zeros = r .0; mark-ok = r .1 }
 
 -- what an update that is not refused has
@@ -52,16 +52,3 @@ accepted h bytes table masks e =
 pub accept : {h : Hasher} {bytes table masks : List ℕ} → Accepted h bytes table masks → updateRefusal h bytes table masks ≡ Nothing
 unfolding updateRefusal
 accept a = rw (a .well, a .short, a .counted, a .good)
-
--- a refusal whose number is 0
-pub nothing-is : (r : Refusal) → isNothing r ≡ true → r ≡ Nothing
-nothing-is Nothing e = refl
-nothing-is HasherForm e = absurd (false≢true e)
-nothing-is TableLength e = absurd (false≢true e)
-nothing-is (MaskNumber i) e = absurd (false≢true e)
-nothing-is (TestStep i) e = absurd (false≢true e)
-nothing-is (DmRule i) e = absurd (false≢true e)
-nothing-is MaskCount e = absurd (false≢true e)
-nothing-is MessageLength e = absurd (false≢true e)
-nothing-is Size e = absurd (false≢true e)
-nothing-is SheetLength e = absurd (false≢true e)

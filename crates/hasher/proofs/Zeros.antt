@@ -10,6 +10,7 @@ use borrow.Author.Tests.{eq-eqb, ne-eqb, eqb-true}
 use lib.Dec.{eqb}
 use lib.ListN.{length, getD, take, drop, replicate, drop-of-length-le}
 use lib.Seq.{drop-cons}
+use Rattle.word.proofs.Tests.{both-true}
 use Rattle.hasher.specs.Hasher.{allZero}
 
 pub zero-nil : allZero [] ≡ true
@@ -31,16 +32,11 @@ module _ (p : List ℕ) (i : ℕ) where
   pub zero-end : length p ≤ i → allZero (drop i p) ≡ true
   zero-end h = rw (drop-of-length-le p h, zero-nil)
 
--- both of two tests
-pub both : (a b : Bool) → (a && b) ≡ true → (a ≡ true) × (b ≡ true)
-both true b e = (refl, e)
-both false b e = let z : true ≡ false = sym e in (sym z, cc)
-
 -- what is all zero is a list of zeros, and the other way round
 pub zero-all : (xs : List ℕ) → allZero xs ≡ true → xs ≡ replicate (length xs) 0
 zero-all [] h = refl
 zero-all (x ∷ xs) h =
-    let g = both (eqb x 0) (allZero xs) (rw (zero-cons x xs) at h) in
+    let g = both-true (eqb x 0) (allZero xs) (rw (zero-cons x xs) at h) in
     ap (λ (y : ℕ). y ∷ xs) (eqb-true x 0 (g .0)) ∙ ap (λ (ys : List ℕ). 0 ∷ ys) (zero-all xs (g .1))
 
 pub zeros-are : (n : ℕ) → allZero (replicate n 0) ≡ true

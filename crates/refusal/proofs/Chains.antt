@@ -4,8 +4,9 @@ use mathlib.Core.Logic.{_↔_}
 use mathlib.Core.Bool.{Bool, true, false, false≢true}
 use Prim.Native.Nat.{ℕ}
 use Rattle.word.specs.Choice.{pick}
-use Rattle.refusal.specs.Refusal.{numberOf}
+use Rattle.refusal.specs.Refusal.{numberOf, isNothing}
 use Rattle.refusal.specs.declared.Refusal.{Refusal}
+use Rattle.refusal.specs.declared.Refusal.the-variants.{Nothing, HasherForm, TableLength, MaskNumber, TestStep, DmRule, MaskCount, MessageLength, Size, SheetLength}
 
 -- a refusal whose number comes no later in the chain is given exactly when its test is true
 pub first-exactly : (b : Bool) (r s : Refusal) (n : ℕ) → numberOf r ≡ n → (numberOf s ≡ n → ⊥) → (numberOf (pick b r s) ≡ n) ↔ (b ≡ true)
@@ -32,3 +33,16 @@ last-exactly false r s n p q = (λ e. refl, λ e. q)
 pub never : (b : Bool) (r s : Refusal) (n : ℕ) → (numberOf r ≡ n → ⊥) → (numberOf s ≡ n → ⊥) → numberOf (pick b r s) ≡ n → ⊥
 never true r s n p q = p
 never false r s n p q = q
+
+-- only one refusal has the number 0
+pub nothing-is : (r : Refusal) → isNothing r ≡ true → r ≡ Nothing
+nothing-is Nothing e = refl
+nothing-is HasherForm e = absurd (false≢true e)
+nothing-is TableLength e = absurd (false≢true e)
+nothing-is (MaskNumber i) e = absurd (false≢true e)
+nothing-is (TestStep i) e = absurd (false≢true e)
+nothing-is (DmRule i) e = absurd (false≢true e)
+nothing-is MaskCount e = absurd (false≢true e)
+nothing-is MessageLength e = absurd (false≢true e)
+nothing-is Size e = absurd (false≢true e)
+nothing-is SheetLength e = absurd (false≢true e)

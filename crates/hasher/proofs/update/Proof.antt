@@ -3,7 +3,8 @@ use mathlib.Core.Path.{_≡_, sym, ap, _∙_}
 use borrow.Author.Tests.{ltb-false}
 use Rattle.refusal.specs.Refusal.{isNothing}
 use Rattle.hasher.specs.Hasher.{updateRefusal, updated}
-use Rattle.hasher.proofs.Formed.{accepted, formed, nothing-is}
+use Rattle.hasher.proofs.Formed.{accepted, formed}
+use Rattle.refusal.proofs.Chains.{nothing-is}
 use borrow.Author.Needs.{needs}
 use Rattle.hasher.proofs.update.Statement.{statement}
 use Rattle.hasher.proofs.update.Tie as tie

@@ -1,0 +1,97 @@
+-- What a hasher has after an update that is not refused. Assumes nothing.
+use mathlib.Core.Path.{_≡_, refl, ap, _∙_}
+use mathlib.Core.Bool.{Bool, true, false, _||_, or-false}
+use mathlib.Core.List.{List}
+use Prim.Native.Nat.{ℕ, _+_, _-_, _/_, _%_, _≤_}
+use native.Mathlib.Omega.{arith}
+use borrow.Author.Tests.{le-leb}
+use lib.ListN.{length, replicate, length-append, length-replicate}
+use lib.Seq.{drop-append-seam}
+use Rattle.word.specs.Choice.{pick}
+use Rattle.refusal.specs.Refusal.{isNothing}
+use Rattle.stream.specs.Fold.{lent, folded}
+use Rattle.stream.specs.declared.Chain.{Chain}
+use Rattle.stream.specs.declared.Flags.{Flags}
+use Rattle.hasher.specs.Hasher.{mostBlocks, wellFormed, taken, streamOf, chainOf, updateRefusal, absorbed, updated}
+use Rattle.hasher.specs.declared.Hasher.{Hasher}
+use Rattle.hasher.proofs.Zeros.{zeros-are}
+use Rattle.claims.specs.Sound.{Sized}
+use Rattle.claims.specs.Marked.{markedBy, againBy, atBlock}
+use Rattle.claims.proofs.Blocks.{run-mark}
+use Rattle.claims.proofs.Below.{anyBelow, none-below}
+use Rattle.finish.proofs.Padded.{restOf, rest-length}
+use Rattle.claims.proofs.Updates.{stream-length, absorbed-is}
+use Rattle.refusal.proofs.Chains.{nothing-is}
+use Rattle.hasher.proofs.Formed.{Formed, formed}
+use Rattle.claims.proofs.Calls.{Taken, refusal-is, update-taken}
+
+-- the mark after a call: what it was, or with detection on that of one of the call's blocks
+pub mark-after : (f : Flags) (table : List ℕ) (c : Chain) (xs masks : List ℕ)
+    → folded f table c xs masks .mark
+    ≡ (c .mark || anyBelow (atBlock (markedBy f table) (againBy f table) (c .words) xs masks) (length xs / 64))
+unfolding folded
+mark-after f table c xs masks = run-mark f table (length xs / 64) c xs masks
+
+mark-kept : (f : Flags) (table : List ℕ) (c : Chain) (xs masks : List ℕ) → f .detect ≡ false → folded f table c xs masks .mark ≡ c .mark
+mark-kept f table c xs masks off =
+    let test = atBlock (markedBy f table) (againBy f table) (c .words) xs masks in
+    mark-after f table c xs masks ∙ rw (none-below test (length xs / 64) .1 (λ i l. rw off)) (or-false (c .mark))
+
+-- a mark only with detection on
+mark-stays-ok : (on m x : Bool) → (on ≡ false → x ≡ m) → pick m on true ≡ true → pick x on true ≡ true
+mark-stays-ok true m true k e = refl
+mark-stays-ok true m false k e = refl
+mark-stays-ok false m x k e = rw (k refl) e
+
+module _ (h : Hasher) (bytes table masks : List ℕ) where
+  pub flags-after : absorbed h bytes table masks .flags ≡ h .flags
+  flags-after = rw (absorbed-is h bytes table masks)
+
+  pub sized-after : Sized (absorbed h bytes table masks)
+  sized-after =
+      let r = restOf (streamOf h bytes) in
+      let z : ℕ = 0 in
+      rw (absorbed-is h bytes table masks)
+      (record {
+        words-size = refl;
+        pending-size = omega (arith, length-append r (replicate (64 - length r) 0), length-replicate (64 - length r) z, rest-length (streamOf h bytes));
+      })
+
+  pub fill-after : length (h .pending) ≡ 64 → h .fill ≤ 63 → absorbed h bytes table masks .fill ≡ (h .fill + length bytes) % 64
+  fill-after long below =
+      rw (absorbed-is h bytes table masks) (rest-length (streamOf h bytes) ∙ ap (λ (n : ℕ). n % 64) (stream-length h bytes long below))
+
+  module _ (long : length (h .pending) ≡ 64) (a : Taken h bytes table masks) where
+    sure : Formed h
+    sure = formed h (a .well)
+
+    pub taken-after : taken (absorbed h bytes table masks) ≡ taken h + length bytes
+    taken-after =
+        let l = stream-length h bytes long (sure .fill-le) in
+        rw (absorbed-is h bytes table masks) (omega (arith, rest-length (streamOf h bytes)))
+
+    pub formed-after : wellFormed (absorbed h bytes table masks) ≡ true
+    unfolding wellFormed
+    formed-after =
+        let s = streamOf h bytes in
+        let l = stream-length h bytes long (sure .fill-le) in
+        let fits = a .fits in
+        rw (
+          absorbed-is h bytes table masks,
+          le-leb (length (restOf s)) 63 (omega (arith, rest-length s)),
+          le-leb (h .blocks + length s / 64) mostBlocks (omega arith),
+          drop-append-seam (restOf s) (replicate (64 - length (restOf s)) 0),
+          zeros-are (64 - length (restOf s)),
+        )
+        (mark-stays-ok (h .flags .detect) (h .mark) _ (mark-kept (h .flags) table (chainOf h) s (lent (h .flags) masks)) (sure .mark-ok))
+
+-- what holds of the hasher, and of the one after an update that is not refused, holds of the one that an update hands back
+either-way : (P : Hasher → Type 0) (h : Hasher) (bytes table masks : List ℕ) (b : Bool) → isNothing (updateRefusal h bytes table masks) ≡ b
+    → P h → (Taken h bytes table masks → P (absorbed h bytes table masks)) → P (pick b (absorbed h bytes table masks) h)
+either-way P h bytes table masks true e p q = q (update-taken h bytes table masks (refusal-is h bytes table masks ∙ nothing-is _ e))
+either-way P h bytes table masks false e p q = p
+
+pub of-updated : (P : Hasher → Type 0) (h : Hasher) (bytes table masks : List ℕ)
+    → P h → (Taken h bytes table masks → P (absorbed h bytes table masks)) → P (updated h bytes table masks .hasher)
+unfolding updated
+of-updated P h bytes table masks p q = either-way P h bytes table masks (isNothing (updateRefusal h bytes table masks)) refl p q

@@ -1,0 +1,49 @@
+-- Demand 2, the digest: FIPS 180-4's for the whole message under every cut, or with the marked blocks compressed twice more. Assumes nothing.
+use mathlib.Core.Path.{_≡_, ap, _∙_}
+use mathlib.Core.Bool.{Bool, true, false, _&&_, and-true, and-false}
+use mathlib.Core.List.{List}
+use Prim.Native.Nat.{ℕ, _<_}
+use Rattle.step.specs.declared.Regs.{Regs}
+use Rattle.stream.specs.Fips.{padded, initial, digestOf, sha1}
+use Rattle.stream.specs.declared.Flags.{Flags}
+use Rattle.finish.specs.declared.Finished.{Finished}
+use Rattle.claims.specs.Pieces.{Piece, bytesOf, hashed, blockMasks, NoneRefused}
+use Rattle.claims.specs.Marked.{markedBy, againBy, blocksIn, sha1Marked, atBlock, markedAt, NoneMarked}
+use Rattle.claims.proofs.Unmarked.{hash-plain, hash-same}
+use Rattle.claims.proofs.Whole.{hashed-is}
+
+and-off : (a b : Bool) → b ≡ false → (a && b) ≡ false
+and-off a b e = rw e (and-false a)
+
+and-on : (a b : Bool) → b ≡ true → (a && b) ≡ a
+and-on a b e = rw e (and-true a)
+
+module _ (f : Flags) (table : List ℕ) (ps : List Piece) (last : List ℕ) (ok : NoneRefused f table ps last) where
+  digest-is : hashed f table ps last .digest ≡ sha1Marked (againBy f table) (bytesOf ps) (blockMasks f ps last)
+  digest-is = ap (λ (r : Finished). r .digest) (hashed-is f table ps last ok)
+
+  -- the standard's digest, where no block is compressed again
+  once : ((i : ℕ) → i < blocksIn (bytesOf ps) → atBlock (againBy f table) (againBy f table) initial (padded (bytesOf ps)) (blockMasks f ps last) i ≡ false)
+      → hashed f table ps last .digest ≡ sha1 (bytesOf ps)
+  unfolding sha1
+  once never = digest-is ∙ ap digestOf (hash-plain (againBy f table) _ initial (padded (bytesOf ps)) (blockMasks f ps last) never)
+
+  -- With detection off the digest is FIPS 180-4's.
+  pub fips-undetected : f .detect ≡ false → hashed f table ps last .digest ≡ sha1 (bytesOf ps)
+  fips-undetected off = once (λ i l. rw off)
+
+  -- With mitigation off it is, whatever is marked.
+  pub fips-unmitigated : f .mitigate ≡ false → hashed f table ps last .digest ≡ sha1 (bytesOf ps)
+  fips-unmitigated off = once (λ i l. and-off (markedAt f table (bytesOf ps) (blockMasks f ps last) i) (f .mitigate) off)
+
+  -- Where no block is marked it is.
+  pub fips-unmarked : NoneMarked f table (bytesOf ps) (blockMasks f ps last) → hashed f table ps last .digest ≡ sha1 (bytesOf ps)
+  fips-unmarked none = once (λ i l. ap (λ (b : Bool). b && f .mitigate) (none i l))
+
+  -- With mitigation on it is the digest by the fold in which each marked block is compressed twice more with the same block.
+  pub marked-twice-more : f .mitigate ≡ true → hashed f table ps last .digest ≡ sha1Marked (markedBy f table) (bytesOf ps) (blockMasks f ps last)
+  marked-twice-more on =
+      let again : (h : Regs) (block : List ℕ) (mask : ℕ) → againBy f table h block mask ≡ markedBy f table h block mask =
+      λ h block mask. and-on (markedBy f table h block mask) (f .mitigate) on
+      in
+      digest-is ∙ ap digestOf (hash-same (againBy f table) (markedBy f table) again _ initial (padded (bytesOf ps)) (blockMasks f ps last))

@@ -1,0 +1,51 @@
+-- Demand 2, the end: a message of more than 2^61-1 bytes is refused. Assumes nothing.
+use mathlib.Core.Path.{_≡_}
+use mathlib.Core.Bool.{true}
+use mathlib.Core.List.{List, [], _∷_}
+use mathlib.Core.Logic.{⊎-elim}
+use Prim.Native.Nat.{ℕ, _+_, _-_, _≤_, _<_}
+use native.Mathlib.Nat.{eq-zero-or-pos}
+use native.Mathlib.Omega.{arith}
+use borrow.Author.Tests.{lt-ltb}
+use lib.ListN.{length, length-append}
+use Rattle.refusal.specs.declared.Refusal.the-variants.{Nothing, MessageLength}
+use Rattle.stream.specs.Flags.{usesMasks}
+use Rattle.stream.specs.declared.Flags.{Flags}
+use Rattle.hasher.specs.Hasher.{mostBytes, wellFormed, taken, tableRefusal, updateRefusal, updated, freshOf}
+use Rattle.hasher.specs.declared.Hasher.{Hasher}
+use Rattle.claims.specs.Pieces.{Piece, bytesOf, piecewise, taking, Counted}
+use Rattle.hasher.proofs.Formed.{formed}
+use Rattle.claims.proofs.Kept.{fresh-sound}
+use Rattle.claims.proofs.Piecewise.{piecewise-cons, piecewise-next, Ready, ready-taken, ready-next, ready-taken-after}
+use Rattle.claims.proofs.Whole.{short-is}
+
+-- An update that would pass 2^61-1 bytes is refused 7, and hands its hasher back.
+pub long-update : (h : Hasher) (bytes table masks : List ℕ) → wellFormed h ≡ true → mostBytes < taken h + length bytes
+    → updated h bytes table masks ≡ record { refusal = MessageLength; hasher = h }
+unfolding updated updateRefusal
+long-update h bytes table masks well long = rw (well, lt-ltb mostBytes (taken h + length bytes) long)
+
+-- pieces of which only the length can be refused
+pieces-long : (ps : List Piece) (h : Hasher) (table : List ℕ) → Ready h table ps → mostBytes < taken h + length (bytesOf ps)
+    → piecewise h table ps .refusal ≡ MessageLength
+pieces-long [] h table r long = let a = formed h (r .sound .well) in absurd (omega arith)
+pieces-long (p ∷ ps) h table r long =
+    let over = taken h + length (p .bytes) - mostBytes in
+    ⊎-elim
+    (λ (z : over ≡ 0).
+    let l = length-append (p .bytes) (bytesOf ps) in
+    let g : taken h + length (p .bytes) ≤ mostBytes = omega arith in
+    let t = ready-taken-after h table p ps r g in
+    rw (piecewise-next h table p ps (ready-taken h table p ps r g)) (pieces-long ps _ table (ready-next h table p ps r g) (omega arith)))
+    (λ (z : 0 < over). rw (piecewise-cons h table p ps, long-update h (p .bytes) table (p .masks) (r .sound .well) (omega arith)))
+    (eq-zero-or-pos over)
+
+-- A longer message is refused at some piece, however it is cut.
+pub long-refused : (f : Flags) (table : List ℕ) (ps : List Piece) → mostBytes < length (bytesOf ps) → taking f table ps .refusal ≡ Nothing → ⊥
+long-refused f table ps long e = let l = short-is f table ps e in omega arith
+
+-- With a good table and each block's mask in its turn, where they are looked at, the number is 7.
+pub long-message : (f : Flags) (table : List ℕ) (ps : List Piece) → tableRefusal f table ≡ Nothing → (usesMasks f ≡ true → Counted 0 ps)
+    → mostBytes < length (bytesOf ps) → taking f table ps .refusal ≡ MessageLength
+long-message f table ps good counts long =
+    pieces-long ps (freshOf f) table (record { sound = fresh-sound f; good = good; counts = counts }) (omega arith)

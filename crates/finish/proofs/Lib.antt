@@ -1,0 +1,4 @@
+pub mod Closing
+pub mod Tails
+pub mod Padded
+pub mod Whole

@@ -1,0 +1,251 @@
+//! The oracle: answers a request file by the unchanged Rust. The layout of both files is in ../format.h.
+//!
+//! The Rust refuses nothing. Where a request lies outside of what it can be asked (a block that is not 64 bytes, a
+//! table that the Rust could not hold, masks too few or too many, a hasher that no call makes), the answer is
+//! `unknown`, and the hasher stays as it was. It has no table check and no sheet either.
+
+use digest::{FixedOutputReset, Reset, Update};
+use sha1_lent::{CollisionResult, Sha1};
+use shape::State;
+use std::collections::HashMap;
+use std::io::Write;
+
+struct In<'a>(&'a [u8]);
+
+impl<'a> In<'a> {
+    fn take(&mut self, n: usize) -> &'a [u8] {
+        let (part, rest) = self.0.split_at(n);
+        self.0 = rest;
+        part
+    }
+    fn number(&mut self, bytes: usize) -> u64 {
+        self.take(bytes).iter().fold(0, |x, b| x << 8 | *b as u64)
+    }
+    fn word(&mut self) -> u32 {
+        self.number(4) as u32
+    }
+    fn bytes(&mut self) -> &'a [u8] {
+        let n = self.word() as usize;
+        self.take(n)
+    }
+    fn words(&mut self, n: usize) -> Vec<u32> {
+        (0..n).map(|_| self.word()).collect()
+    }
+    fn masks(&mut self) -> Vec<u32> {
+        let n = self.word() as usize;
+        self.words(n)
+    }
+    fn five(&mut self) -> [u32; 5] {
+        self.words(5).try_into().unwrap()
+    }
+}
+
+#[derive(Default)]
+struct Out(Vec<u8>);
+
+impl Out {
+    fn put(&mut self, x: u64, bytes: usize) {
+        self.0.extend_from_slice(&x.to_be_bytes()[8 - bytes..]);
+    }
+    fn five(&mut self, words: [u32; 5]) {
+        words.iter().for_each(|w| self.put(*w as u64, 4));
+    }
+    /// Known, and nothing refused: number 0 at place 0. Another number says that the Rust went astray.
+    fn known(&mut self, astray: u64) {
+        self.put(1, 1);
+        self.put(astray, 4);
+        self.put(0, 8);
+    }
+    fn hasher(&mut self, s: &State) {
+        self.five(s.words);
+        self.0.extend_from_slice(&s.pending);
+        self.put(s.fill, 8);
+        self.put(s.blocks, 8);
+        self.put(s.mark as u64, 8);
+        self.put(s.detect as u64 + 2 * s.mitigate as u64 + 4 * s.lent as u64 + 8 * s.reduced as u64, 8);
+    }
+    fn zeros(&mut self, n: usize) {
+        self.0.resize(self.0.len() + n, 0);
+    }
+}
+
+/// Which slots hold a table that the Rust could have as its own.
+#[derive(Default)]
+struct Tables(HashMap<u32, bool>);
+
+impl Tables {
+    fn set(&mut self, slot: u32, words: &[u32]) {
+        let good = !words.is_empty()
+            && words.len() % 82 == 0
+            && words.len() <= 32 * 82
+            && words.chunks(82).all(|r| {
+                let dm = &r[2..];
+                let rule = |t: usize| dm[t] == (dm[t - 3] ^ dm[t - 8] ^ dm[t - 14] ^ dm[t - 16]).rotate_left(1);
+                r[0] < 32 && (r[1] == 58 || r[1] == 65) && (16..80).all(rule)
+            });
+        self.0.insert(slot, good);
+        Sha1::set_table(slot, if good { words } else { &[] });
+    }
+    fn good(&self, slot: u32) -> bool {
+        *self.0.get(&slot).expect("no such table")
+    }
+    /// Whether table and masks suit a call with these flags that compresses so many blocks.
+    fn suit(&self, s: &State, slot: u32, masks: &[u32], blocks: u64) -> bool {
+        !s.detect || (self.good(slot) && (!s.lent || masks.len() as u64 == blocks))
+    }
+}
+
+fn one_block(mut body: In, tables: &Tables, o: &mut Out) {
+    let (words, slot, mask, flags) = (body.five(), body.word(), body.word(), body.number(1));
+    match <&[u8; 64]>::try_from(body.0) {
+        Ok(block) if tables.good(slot) => {
+            let masks = [mask];
+            Sha1::lend(slot, &masks);
+            let b = Sha1::one_block(words, block, flags & 2 != 0, flags & 8 != 0);
+            o.known(astray(true, 1));
+            o.put(b.mark as u64, 8);
+            o.put(b.place as u64, 8);
+            o.put(b.tried as u64, 8);
+            o.five(b.words);
+        }
+        _ => o.zeros(1 + 4 + 8 + 24 + 20),
+    }
+}
+
+/// 98 if the Rust took another number of masks than the paper says, though it can't refuse any.
+fn astray(looked_at: bool, masks: usize) -> u64 {
+    if looked_at && Sha1::masks_taken() != masks { 98 } else { 0 }
+}
+
+fn verdict(r: &CollisionResult) -> u64 {
+    match r {
+        CollisionResult::Ok(_) => 0,
+        CollisionResult::Mitigated(_) => 1,
+        CollisionResult::Collision(_) => 2,
+    }
+}
+
+/// The hasher as asked for, or none where no call makes one like it.
+fn hasher(body: &mut In) -> Option<State> {
+    let words = body.five();
+    let pending: [u8; 64] = body.take(64).try_into().unwrap();
+    let (fill, blocks, mark, flags) = (body.number(8), body.number(8), body.number(8), body.number(8));
+    let flag = |bit: u64| flags & bit != 0;
+    let real = fill < 64
+        && blocks < 1 << 55
+        && pending[fill as usize..].iter().all(|b| *b == 0)
+        && (mark == 0 || flag(1));
+    let state = State {
+        words,
+        pending,
+        fill,
+        blocks,
+        mark: mark != 0,
+        detect: flag(1),
+        mitigate: flag(2),
+        lent: flag(4),
+        reduced: flag(8),
+    };
+    real.then_some(state)
+}
+
+fn session(mut body: In, tables: &Tables, o: &mut Out) {
+    let mut held = hasher(&mut body).map(|s| (Sha1::from_state(&s), s));
+    while !body.0.is_empty() {
+        let call = body.number(1);
+        let slot = if call != 2 { body.word() } else { 0 };
+        let bytes = if call == 1 { body.bytes() } else { &[] };
+        let masks = if call != 2 { body.masks() } else { vec![] };
+        let (out_len, _) = if call == 4 { (body.word(), body.number(1)) } else { (20, 0) };
+        let asked = held.as_mut().filter(|(_, s)| match call {
+            1 => {
+                let so_far = s.blocks * 64 + s.fill;
+                bytes.len() as u64 <= (1 << 61) - 1 - so_far
+                    && tables.suit(s, slot, &masks, (s.fill + bytes.len() as u64) / 64)
+            }
+            2 => true,
+            _ => out_len == 20 && tables.suit(s, slot, &masks, if s.fill < 56 { 1 } else { 2 }),
+        });
+        let Some((sha1, s)) = asked else {
+            o.zeros(1 + 4 + 16 + 116 + 4);
+            continue;
+        };
+        let (mut out, mut said, mut wrong) = (Vec::new(), 0, 0);
+        let lend = || Sha1::lend(slot, &masks);
+        lend();
+        match call {
+            1 => Update::update(sha1, bytes),
+            2 => Reset::reset(sha1),
+            3 => {
+                let r = sha1.clone().try_finalize();
+                said = verdict(&r);
+                out = r.hash().to_vec();
+            }
+            4 => {
+                // This one gives no verdict, so a copy is asked for it.
+                let r = sha1.clone().try_finalize();
+                said = verdict(&r);
+                lend();
+                let mut digest = [0; 20];
+                FixedOutputReset::finalize_into_reset(sha1, &mut digest);
+                // 99 if the two ways to finish differ.
+                wrong = if &digest == r.hash() { 0 } else { 99 };
+                out = digest.to_vec();
+            }
+            _ => panic!("no such call"),
+        }
+        wrong += astray(s.detect && s.lent && call != 2, masks.len());
+        *s = sha1.state(s);
+        o.known(wrong);
+        o.put(said, 8);
+        o.hasher(s);
+        o.put(out.len() as u64, 4);
+        o.0.extend_from_slice(&out);
+    }
+}
+
+fn one_shot(mut body: In, tables: &Tables, o: &mut Out) {
+    let (slot, bytes, masks) = (body.word(), body.bytes(), body.masks());
+    if tables.good(slot) && masks.len() == (bytes.len() + 8) / 64 + 1 {
+        Sha1::lend(slot, &masks);
+        let r = Sha1::try_digest(bytes);
+        o.known(astray(true, masks.len()));
+        o.put(verdict(&r), 8);
+        o.0.extend_from_slice(r.hash());
+    } else {
+        o.zeros(1 + 4 + 16 + 20);
+    }
+}
+
+fn main() {
+    let args: Vec<String> = std::env::args().collect();
+    let [_, requests, answers] = &args[..] else { panic!("usage: oracle REQUESTS ANSWERS") };
+    let file = std::fs::read(requests).expect("cannot read the requests");
+    let mut answers = std::io::BufWriter::new(std::fs::File::create(answers).expect("cannot write the answers"));
+    let mut tables = Tables::default();
+    let mut file = In(&file);
+    while !file.0.is_empty() {
+        let kind = file.number(1);
+        let mut body = In(file.bytes());
+        let mut o = Out::default();
+        match kind {
+            1 => {
+                let slot = body.word();
+                let words = body.words(body.0.len() / 4);
+                tables.set(slot, &words);
+                continue;
+            }
+            2 => one_block(body, &tables, &mut o),
+            3 => session(body, &tables, &mut o),
+            4 => one_shot(body, &tables, &mut o),
+            5 => o.zeros(1 + 4 + 8),
+            6 => o.zeros(1 + 4 + 16),
+            7 => o.zeros(1 + 4 + 8),
+            _ => panic!("no such request"),
+        }
+        answers.write_all(&[kind as u8]).unwrap();
+        answers.write_all(&(o.0.len() as u32).to_be_bytes()).unwrap();
+        answers.write_all(&o.0).unwrap();
+    }
+    answers.flush().unwrap();
+}

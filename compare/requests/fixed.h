@@ -1,0 +1,345 @@
+/* What is tried in full, whatever the seed. */
+
+static uint8_t pattern[1 << 20];
+static const uint32_t all = 0xffffffff, none = 0;
+
+/* A message in one piece, finished with every flag; each call is lent what the flags look at. */
+static void in_all_modes(int slot, const uint8_t *bytes, size_t len, const uint32_t *same)
+{
+    for (int flags = 0; flags < 16; flags++) {
+        begin_fresh(flags);
+        update(slot, bytes, len, same, 0);
+        finish(slot, same, 0);
+        finish_and_reset(slot, same, 0, 20, 0x5a);
+        finish(slot, same, 0);
+        end();
+    }
+}
+
+static void short_messages(void)
+{
+    in_all_modes(CONTROL, NULL, 0, &all);
+    in_all_modes(REAL, NULL, 0, &all);
+    for (int b = 0; b < 256; b++) {
+        uint8_t byte = b;
+        in_all_modes(CONTROL, &byte, 1, &all);
+        in_all_modes(CONTROL_65, &byte, 1, b % 2 ? &all : &none);
+    }
+}
+
+/* Every length up to 200: whole in all modes, byte by byte, and cut in two everywhere. Then the limits of later blocks. */
+static void lengths(void)
+{
+    static const int modes[4] = { 0, DETECT | MITIGATE | LENT, DETECT, DETECT | MITIGATE | REDUCED };
+    for (int n = 0; n <= 200; n++) {
+        in_all_modes(n % 3 == 0 ? REAL : n % 3 == 1 ? CONTROL : CONTROL_65, pattern + n, n, NULL);
+        for (int m = 0; m < 4; m++) {
+            begin_fresh(modes[m]);
+            for (int i = 0; i < n; i++) update(CONTROL, pattern + i, 1, m % 2 ? &all : NULL, 0);
+            finish(CONTROL, &all, 0);
+            end();
+        }
+        for (int cut = 0; cut <= n; cut++) {
+            begin_fresh(cut % 2 ? DETECT | MITIGATE | LENT : cut % 4 ? DETECT : 0);
+            update(CONTROL, pattern, cut, NULL, 0);
+            update(CONTROL, pattern + cut, n - cut, NULL, 0);
+            finish(CONTROL, NULL, 0);
+            end();
+        }
+        one_shot(n % 2 ? CONTROL : REAL, pattern, n, NULL, 0);
+    }
+    for (int k = 1; k <= 24; k++)
+        for (int n = 64 * k - 10; n <= 64 * k + 2; n++) {
+            in_all_modes(k % 2 ? CONTROL : REAL, pattern, n, NULL);
+            one_shot(CONTROL, pattern, n, k % 2 ? &all : NULL, 0);
+        }
+    /* Long ones: the schoolbook million, and 64 KiB in pieces of all sizes. */
+    memset(pattern, 'a', 1000000);
+    for (int flags = 0; flags < 2; flags++) {
+        begin_fresh(flags);
+        update(CONTROL, pattern, 1000000, NULL, 0);
+        finish(CONTROL, NULL, 0);
+        end();
+    }
+    seed = 3;
+    fill_by_chance(pattern, sizeof pattern);
+    begin_fresh(DETECT | MITIGATE | LENT);
+    for (size_t at = 0, n; at < 65536; at += n) { n = below(1000); update(REAL, pattern + at, n, NULL, 0); }
+    finish(REAL, NULL, 0);
+    end();
+}
+
+/* Each fill at finish, and block counts that use every byte of the length. */
+static void fills(void)
+{
+    uint32_t words[5];
+    uint8_t pending[64];
+    for (int fill = 0; fill < 64; fill++)
+        for (int shift = 0; shift <= 55; shift += 5)
+            for (int mark = 0; mark < 2; mark++) {
+                some_words(words);
+                memset(pending, 0, 64);
+                fill_by_chance(pending, fill);
+                int flags = (fill + shift) % 16 | mark;
+                begin(words, pending, fill, (((uint64_t)1 << 55) - 1) >> shift, mark, flags);
+                finish(REAL, NULL, 0);
+                finish(CONTROL, &none, 0);
+                finish(CONTROL, &none, 1);
+                finish(CONTROL, &none, -1);
+                finish_and_reset(CONTROL, &all, 0, 20, 0);
+                end();
+            }
+    /* Not well formed: a byte beyond the fill, at every place; and the other ways, one by one. */
+    for (int fill = 0; fill <= 64; fill++)
+        for (int at = fill; at < 64 || (fill == 64 && at == 64); at++) {
+            some_words(words);
+            memset(pending, 0, 64);
+            if (at < 64) pending[at] = at + 1;
+            begin(words, pending, fill, 0, 0, DETECT);
+            update(CONTROL, pattern, at % 3, NULL, 0);
+            finish(CONTROL, &all, 0);
+            finish_and_reset(NO_TABLE, &all, 1, 19, 0x77);
+            reset();
+            end();
+        }
+    memset(pending, 0, 64);
+    for (int flags = 0; flags < 16; flags++)
+        for (int way = 0; way < 4; way++) {
+            uint64_t blocks = way == 0 ? (uint64_t)1 << 55 : way == 1 ? (uint64_t)-1 : 0;
+            uint64_t fill = way == 2 ? 64 : 0;
+            begin(words, pending, fill, blocks, way == 3, flags);
+            update(NO_TABLE, pattern, 3, NULL, 1);
+            update(CONTROL, pattern, 64, &all, 0);
+            finish(CONTROL, &all, 0);
+            finish_and_reset(CONTROL, &all, 0, 20, 0x33);
+            reset();
+            end();
+        }
+}
+
+/* Up to the longest message: the last byte is taken, one more is refused, none is not. */
+static void longest(void)
+{
+    uint32_t words[5] = { 1, 2, 3, 4, 5 };
+    uint8_t pending[64] = { 0 };
+    for (int flags = 0; flags < 16; flags++)
+        for (int fill = 0; fill < 64; fill++)
+            for (uint64_t less = 0; less < 2; less++) {
+                memset(pending, 0, 64);
+                memset(pending, 0x11, fill);
+                uint64_t blocks = ((uint64_t)1 << 55) - 1 - less, room = 63 - fill + 64 * less;
+                begin(words, pending, fill, blocks, 0, flags);
+                update(CONTROL, pattern, room + 1, NULL, 0);
+                update(CONTROL, pattern, room + 1, NULL, 1);
+                update(NO_TABLE, pattern, room + 1, NULL, 0);
+                update(CONTROL, pattern, 0, NULL, 0);
+                update(CONTROL, pattern, room, NULL, 0);
+                update(CONTROL, pattern, 0, NULL, 0);
+                update(CONTROL, pattern, 1, NULL, 0);
+                finish(CONTROL, NULL, 0);
+                end();
+            }
+}
+
+/* The order of refusals: everything wrong at once, then one thing less at a time. */
+static void orders(void)
+{
+    uint32_t words[5] = { 5, 4, 3, 2, 1 };
+    uint8_t pending[64] = { 0 };
+    pool[BAD] = pool[REAL];
+    pool[BAD].good = 0;
+    pool[BAD].w[RECORD * 7] = 99;
+    send_table(BAD);
+    for (int flags = 0; flags < 16; flags++)
+        for (int well = 0; well < 2; well++)
+            for (int slot = 0; slot < 3; slot++)
+                for (int wrong = -1; wrong < 2; wrong++)
+                    for (int much = 0; much < 2; much++) {
+                        int lent = slot == 0 ? NO_TABLE : slot == 1 ? BAD : CONTROL;
+                        pending[63] = !well;
+                        begin(words, pending, 10, ((uint64_t)1 << 55) - 1, 0, flags);
+                        update(lent, pattern, much ? 54 : 53, NULL, wrong);
+                        finish(lent, NULL, wrong);
+                        finish_and_reset(lent, NULL, wrong, much ? 21 : 20, 0xee);
+                        reset();
+                        end();
+                    }
+    for (int slot = 0; slot < 3; slot++)
+        for (int wrong = -1; wrong < 2; wrong++)
+            for (int n = 0; n < 130; n++) {
+                int lent = slot == 0 ? NO_TABLE : slot == 1 ? BAD : CONTROL;
+                one_shot(lent, pattern, n, NULL, wrong);
+                send_block(words, lent, wrong, MITIGATE, pattern, n);
+            }
+    for (int n = 0; n < 65; n++) {
+        memset(pending, 0, 64);
+        begin(words, pending, 0, 0, 0, DETECT | LENT);
+        finish_and_reset(CONTROL, &all, 0, n, 0xab);
+        end();
+    }
+}
+
+/* Three good records, with each word damaged in turn, and each length of their words; then the largest tables. */
+static void tables(void)
+{
+    static struct table t;
+    uint32_t words[5] = { 1, 1, 1, 1, 1 };
+    seed = 5;
+    t.len = 3 * RECORD;
+    for (int i = 0; i < 3; i++) some_record(t.w + RECORD * i);
+    for (size_t i = 0; i < t.len; i++)
+        for (int turn = 0; turn < 4; turn++) {
+            uint32_t kept = t.w[i];
+            t.w[i] ^= (uint32_t[]){ 1, 0x80000000, 0x20, some_bit() }[turn];
+            send_words(BAD, t.w, t.len);
+            table_check(BAD);
+            send_block(words, BAD, all, 0, pattern, 64);
+            t.w[i] = kept;
+        }
+    for (size_t n = 0; n <= t.len; n++) {
+        send_words(BAD, t.w, n);
+        table_check(BAD);
+        send_block(words, BAD, all, 0, pattern, 64);
+        send_block(words, BAD, all, 0, pattern, 63);
+    }
+    for (size_t n = MOST - 1; n <= MOST + 2; n++)
+        for (int off = -1; off < 2; off++) {
+            for (int i = 0; i < MOST + 4; i++) control(t.w + RECORD * i, i % 32, i % 2 ? 58 : 65);
+            send_words(BAD, t.w, n * RECORD + off);
+            table_check(BAD);
+            send_block(words, BAD, all, 0, pattern, 64);
+        }
+    /* Each mask number, each single bit; and each pair of faults in the order of their places. */
+    for (int number = 0; number < 34; number++)
+        for (int step = 56; step < 68; step++) {
+            control(t.w, number, step);
+            send_words(BAD, t.w, RECORD);
+            table_check(BAD);
+            for (int bit = 0; bit < 32; bit += 1 + step % 5) send_block(words, BAD, (uint32_t)1 << bit, 0, pattern, 64);
+            send_block(words, BAD, none, REDUCED, pattern, 64);
+        }
+    for (int a = 0; a < 4; a++)
+        for (int b = 0; b < 4; b++)
+            for (int at = 0; at < 3; at++) {
+                for (int i = 0; i < 3; i++) control(t.w + RECORD * i, i, 58);
+                uint32_t *r[2] = { t.w + RECORD * at, t.w + RECORD * ((at + 1) % 3) };
+                int fault[2] = { a, b };
+                for (int i = 0; i < 2; i++) {
+                    if (fault[i] == 1) r[i][0] = 32;
+                    if (fault[i] == 2) r[i][1] = 64;
+                    if (fault[i] == 3) r[i][2 + 40] = 1;
+                }
+                if (a == b) r[0][1] = 0, r[0][20] = 1;
+                send_words(BAD, t.w, 3 * RECORD);
+                table_check(BAD);
+                send_block(words, BAD, all, 0, pattern, 64);
+            }
+}
+
+/* The published files with the crate's own table: all modes, several masks, several cuts. */
+static void published_files(const char *data)
+{
+    for (int i = 0; i < 3; i++)
+        for (int bit = -2; bit < 32; bit++) {
+            uint32_t mask = bit == -2 ? all : bit == -1 ? none : (uint32_t)1 << bit;
+            in_all_modes(REAL, published[i].at, published[i].left, &mask);
+            mask = ~mask;
+            in_all_modes(REAL, published[i].at, published[i].left, &mask);
+            one_shot(REAL, published[i].at, published[i].left, &mask, 0);
+        }
+    for (int i = 0; i < 3; i++)
+        for (size_t cut = 0; cut <= published[i].left; cut++) {
+            begin_fresh(DETECT | (cut % 2 ? MITIGATE : 0) | (cut % 4 > 1 ? LENT : 0) | (i == 2 ? REDUCED : 0));
+            update(REAL, published[i].at, cut, &all, 0);
+            update(REAL, published[i].at + cut, published[i].left - cut, &all, 0);
+            finish(REAL, &all, 0);
+            reset(); /* the mark goes, the flags stay */
+            update(REAL, published[i].at, cut, &all, 0);
+            finish_and_reset(REAL, &all, 0, 20, 1);
+            update(REAL, published[i].at, published[i].left, &all, 0);
+            finish(REAL, &all, 0);
+            end();
+        }
+    /* NIST's short messages; their published digests are looked up by second/digests.py. */
+    char name[4096], line[4096];
+    snprintf(name, sizeof name, "%s/SHA1ShortMsg.rsp", data);
+    FILE *f = fopen(name, "r");
+    if (!f) stop("cannot read SHA1ShortMsg.rsp");
+    size_t bits = 0;
+    while (fgets(line, sizeof line, f)) {
+        uint8_t bytes[2048];
+        sscanf(line, "Len = %zu", &bits);
+        if (strncmp(line, "Msg = ", 6)) continue;
+        for (size_t i = 0; i < bits / 8; i++) {
+            unsigned byte;
+            sscanf(line + 6 + 2 * i, "%2x", &byte);
+            bytes[i] = byte;
+        }
+        in_all_modes(REAL, bytes, bits / 8, &all);
+    }
+    fclose(f);
+    in_all_modes(CONTROL, (const uint8_t *)"hello world", 11, &all);
+    in_all_modes(CONTROL, (const uint8_t *)"hello world", 11, &none);
+    in_all_modes(REAL, (const uint8_t *)"abc", 3, &all);
+    in_all_modes(REAL, (const uint8_t *)"abcdbcdecdefdefgefghfghighijhijkijkljklmklmnlmnomnopnopq", 56, &all);
+}
+
+/* The mark stays: one marked block among clean ones, at each place, for each way to mark. */
+static void marks_stay(void)
+{
+    for (int marked = 0; marked < 6; marked++)
+        for (int flags = 0; flags < 16; flags++)
+            for (int slot = REAL; slot <= CONTROL_65; slot++) {
+                begin_fresh(flags | DETECT);
+                for (int i = 0; i < 6; i++) update(slot, pattern + 64 * i, 64, i == marked ? &all : &none, 0);
+                finish(slot, &none, 0);
+                reset();
+                update(slot, pattern, 64, &none, 0);
+                finish(slot, &none, 0);
+                finish(slot, &all, 0);
+                finish_and_reset(slot, &all, 0, 20, 9);
+                finish(slot, &none, 0);
+                end();
+            }
+}
+
+/* Sheets of up to 4 records: each record looked for, each byte of barcode and digest turned. */
+static void sheets(void)
+{
+    uint8_t sheet[128], code[13] = { 0 }, digest[20];
+    seed = 7;
+    fill_by_chance(sheet, sizeof sheet);
+    memcpy(sheet + 96, sheet + 32, 12); /* the fourth repeats the second's barcode */
+    for (int kind = LOOKUP; kind <= COMPARE; kind++)
+        for (int len = 0; len <= 128; len++)
+            for (int i = 0; i < 4; i++)
+                for (int turn = -1; turn < (len % 32 ? 0 : 32); turn++) {
+                    memcpy(code, sheet + 32 * i, 12);
+                    memcpy(digest, sheet + 32 * i + 12, 20);
+                    if (turn >= 0) { if (turn < 12) code[turn] ^= 4; else digest[turn - 12] ^= 4; }
+                    for (int code_len = turn == -1 ? 11 : 12; code_len < (turn == -1 ? 14 : 13); code_len++) {
+                        put_bytes(&o, sheet, len);
+                        put_bytes(&o, code, code_len);
+                        if (kind == COMPARE) {
+                            put(&o, (len + i + code_len) % 3, 4);
+                            put_raw(&o, digest, 20);
+                        }
+                        write_record(file, kind, &o);
+                    }
+                }
+}
+
+static void fixed_requests(const char *data)
+{
+    seed = 1;
+    fill_by_chance(pattern, sizeof pattern);
+    short_messages();
+    lengths();
+    fills();
+    longest();
+    orders();
+    tables();
+    published_files(data);
+    marks_stay();
+    sheets();
+}

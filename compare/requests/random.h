@@ -1,0 +1,277 @@
+/* Requests drawn from the seed. */
+
+/* ---- Tables ---- */
+
+static void some_record(uint32_t *r)
+{
+    uint32_t number = below(32);
+    control(r, number, one_in(2) ? 58 : 65);
+    if (one_in(5)) return; /* the control record */
+    if (one_in(3)) turn_word(r + 2, 16); /* a single bit */
+    else if (one_in(4)) memcpy(r + 2, pool[REAL].w + RECORD * below(MOST) + 2, 64); /* one of the crate's */
+    else for (int t = 0; t < 16; t++) r[2 + t] = chance();
+    extend(r + 2);
+}
+
+static int some_count(void)
+{
+    switch (below(8)) {
+    case 0: case 1: case 2: return 1;
+    case 3: case 4: case 5: return 2 + below(3);
+    case 6: return 2 + below(MOST - 1);
+    default: return one_in(3) ? MOST : 2 + below(8);
+    }
+}
+
+static void some_table(struct table *t)
+{
+    int n = some_count();
+    t->len = RECORD * n;
+    t->good = 1;
+    for (int i = 0; i < n; i++) some_record(t->w + RECORD * i);
+    /* Often without a control record, so that every selected record is tried. */
+    if (one_in(2))
+        for (int i = 0; i < n; i++) {
+            t->w[RECORD * i + 2] ^= chance();
+            extend(t->w + RECORD * i + 2);
+        }
+    if (one_in(4)) for (int i = 0; i < n; i++) t->w[RECORD * i] = t->w[0]; /* one number for all */
+}
+
+static void damage(struct table *t)
+{
+    uint32_t *r = t->w + RECORD * below(t->len / RECORD);
+    switch (below(6)) {
+    case 0: r[0] = one_in(2) ? 32 : 32 + (chance() >> 33); break;
+    case 1: r[1] = (uint32_t[]){ 0, 57, 59, 64, 66, 58 + 65, 58 << 8, 0x80000000 | 58 }[below(8)]; break;
+    case 2: r[2 + 16] ^= 1; break;
+    case 3: turn_word(r + 2 + 79, 1); break;
+    default: turn_word(r + 2, 80); break;
+    }
+    t->good = 0;
+}
+
+static void some_bad_table(struct table *t)
+{
+    some_table(t);
+    t->good = 0;
+    switch (below(8)) {
+    case 0: t->len = 0; return;
+    case 1: t->len -= 1 + below(RECORD - 1); return;
+    case 2: t->len += 1 + below(RECORD - 1); return;
+    case 3:
+        t->len = RECORD * (MOST + 1 + below(3));
+        for (size_t i = 0; i < t->len / RECORD; i++) some_record(t->w + RECORD * i);
+        return;
+    default:
+        for (int n = 1 + below(3); n > 0; n--) damage(t);
+    }
+}
+
+static int some_slot(void)
+{
+    if (one_in(16)) return BAD + below(SLOTS - BAD);
+    if (one_in(24)) return REAL;
+    return one_in(12) ? (one_in(2) ? CONTROL : CONTROL_65) : GOOD + (int)below(GOOD_END - GOOD);
+}
+
+/* ---- One block ---- */
+
+static void some_words(uint32_t words[5])
+{
+    static const uint32_t start[5] = { 0x67452301, 0xefcdab89, 0x98badcfe, 0x10325476, 0xc3d2e1f0 };
+    int how = below(6);
+    for (int i = 0; i < 5; i++) words[i] = how < 2 ? start[i] : how == 2 ? -below(2) : chance();
+}
+
+static int some_flags(void) { return below(16) & (MITIGATE | REDUCED); }
+
+static void some_block(void)
+{
+    uint32_t words[5];
+    uint8_t block[130];
+    int slot = some_slot();
+    size_t len = one_in(24) ? below(131) : 64;
+    some_words(words);
+    int how = below(12);
+    if (how == 0) memset(block, 0, 130);
+    else if (how == 1) memset(block, 0xff, 130);
+    else if (how == 2) { memset(block, 0, 130); turn_byte(block, 64); }
+    else fill_by_chance(block, 130);
+    uint32_t mask = some_mask(&pool[slot]);
+    send_block(words, slot, mask, some_flags(), block, len);
+}
+
+/* A block that its record marks, with that record somewhere among others. */
+static void some_pair(void)
+{
+    const struct pair *p = &pairs[below(pair_count)];
+    struct table *t = &pool[GOOD];
+    uint8_t block[64];
+    uint32_t words[5];
+    some_table(t);
+    uint32_t *r = t->w + RECORD * below(t->len / RECORD), number = r[0];
+    memcpy(r, p->record, 4 * RECORD);
+    if (one_in(2)) r[0] = number;
+    send_table(GOOD);
+    memcpy(block, p->block, 64);
+    memcpy(words, p->words, 20);
+    for (int i = 0; i < 8; i++) {
+        uint32_t mask = one_in(2) ? some_mask(t) : (uint32_t)1 << r[0] | (one_in(2) ? some_mask(t) : 0);
+        send_block(words, GOOD, mask, some_flags(), block, 64);
+    }
+    /* And just beside it: one bit of the block or of the words turned. */
+    if (one_in(2)) turn_byte(block, 64);
+    else turn_word(words, 5);
+    send_block(words, GOOD, 0xffffffff, some_flags(), block, 64);
+}
+
+/* ---- Sessions ---- */
+
+static size_t some_length(void)
+{
+    size_t blocks = 64 * below(5);
+    switch (below(10)) {
+    case 0: return 0;
+    case 1: case 2: return blocks + (uint64_t[]){ 0, 1, 54, 55, 56, 57, 62, 63 }[below(8)];
+    case 3: return 64 - held.fill % 64; /* just full */
+    case 4: return one_in(8) ? below(2000) : below(400);
+    default: return below(100);
+    }
+}
+
+static void some_hasher(int flags)
+{
+    uint32_t words[5];
+    uint8_t pending[64] = { 0 };
+    uint64_t fill = below(64), blocks = chance() >> 9, far = chance();
+    blocks >>= below(55);
+    int mark = (flags & DETECT) && one_in(4);
+    some_words(words);
+    fill_by_chance(pending, fill);
+    if (one_in(4)) blocks = ((uint64_t)1 << 55) - 1 - below(3);
+    if (one_in(3)) { /* not well formed, in one way or two */
+        for (int n = 1 + one_in(4); n > 0; n--)
+            switch (below(5)) {
+            case 0: fill = one_in(2) ? 64 : far >> below(57); if (fill < 64) fill = 64; break;
+            case 1: blocks = ((uint64_t)1 << 55) + (one_in(2) ? 0 : far >> 1); break;
+            case 2: pending[63] = 1; if (fill == 64) fill = 63; break;
+            case 3: if (fill < 64) pending[fill] = 1 + below(255); break;
+            default: mark = 1; flags &= ~DETECT; break;
+            }
+    }
+    begin(words, pending, fill, blocks, mark, flags);
+}
+
+static void some_session(void)
+{
+    static uint8_t bytes[4096];
+    int flags = below(16), slot = some_slot(), other;
+    if (!one_in(3)) flags |= DETECT;
+    if (one_in(4)) some_hasher(flags);
+    else begin_fresh(flags);
+    const uint32_t all = 0xffffffff, none = 0, *same = one_in(3) ? &all : one_in(8) ? &none : NULL;
+    size_t n;
+    for (int messages = 1 + below(3); messages > 0; messages--) {
+        if (one_in(20)) { /* a published file, cut by chance */
+            struct in in = published[below(3)];
+            while (in.left) {
+                n = 1 + below(in.left);
+                update(REAL, take(&in, n), n, one_in(2) ? &all : NULL, 0);
+            }
+        } else {
+            for (int pieces = below(6); pieces > 0; pieces--) {
+                n = some_length();
+                fill_by_chance(bytes, n);
+                other = one_in(10) ? some_slot() : slot;
+                update(other, bytes, n, same, one_in(16) ? (one_in(2) ? 1 : -1) : 0);
+            }
+        }
+        other = one_in(10) ? some_slot() : slot;
+        int wrong = one_in(16) ? (one_in(2) ? 1 : -1) : 0;
+        switch (below(5)) {
+        case 0: case 1: finish(other, same, wrong); break;
+        case 2: finish(other, same, wrong); reset(); break;
+        default:
+            n = one_in(10) ? below(65) : 20;
+            finish_and_reset(other, same, wrong, n, chance());
+        }
+    }
+    finish(slot, same, 0);
+    end();
+}
+
+/* ---- Sheets ---- */
+
+static void some_sheet(int kind)
+{
+    uint8_t sheet[32 * 20], code[40], digest[20];
+    int n = one_in(12) ? 0 : below(12);
+    size_t len = 32 * n, code_len = 12;
+    fill_by_chance(sheet, sizeof sheet);
+    fill_by_chance(code, sizeof code);
+    fill_by_chance(digest, 20);
+    /* Barcodes that differ in one byte only, or not at all. */
+    for (int i = 1; i < n; i++)
+        if (one_in(2)) {
+            memcpy(sheet + 32 * i, sheet, 12);
+            if (one_in(2)) turn_byte(sheet + 32 * i + 11, 1);
+            else if (one_in(2)) turn_byte(sheet + 32 * i, 12);
+        }
+    if (n && !one_in(4)) {
+        const uint8_t *wanted = sheet + 32 * below(n);
+        memcpy(code, wanted, 12);
+        if (one_in(6)) turn_byte(code, 12);
+        /* Digests: its own, that of another record, or one bit beside it. */
+        memcpy(digest, (one_in(2) ? wanted : sheet + 32 * below(n)) + 12, 20);
+        if (one_in(6)) turn_byte(digest + 19, 1);
+        else if (one_in(6)) turn_byte(digest, 20);
+    }
+    /* The barcode where none may be looked for: across two records, or inside a digest. */
+    if (n > 1 && one_in(4)) memcpy(sheet + below(32 * (n - 1)), code, 12);
+    if (one_in(8)) len += below(sizeof sheet - len + 1);
+    if (one_in(8)) code_len = below(one_in(2) ? 14 : 40);
+    put_bytes(&o, sheet, len);
+    put_bytes(&o, code, code_len);
+    if (kind == COMPARE) {
+        put(&o, below(3), 4);
+        put_raw(&o, digest, 20);
+    }
+    write_record(file, kind, &o);
+}
+
+static void random_requests(uint64_t blocks, uint64_t sessions, uint64_t others)
+{
+    static uint8_t bytes[4096];
+    for (int i = GOOD; i < BAD; i++) { some_table(&pool[i]); send_table(i); }
+    for (int i = BAD; i < SLOTS; i++) { some_bad_table(&pool[i]); send_table(i); }
+    for (uint64_t i = 0; i < blocks;) {
+        /* Tables are long, so each serves some hundred blocks. */
+        if (i % 16 == 0) { int s = GOOD + below(GOOD_END - GOOD); some_table(&pool[s]); send_table(s); }
+        if (i % 64 == 0) { int s = BAD + below(SLOTS - BAD); some_bad_table(&pool[s]); send_table(s); }
+        if (one_in(80)) { some_pair(); i += 9; }
+        else { some_block(); i++; }
+    }
+    for (uint64_t i = 0; i < sessions; i++) {
+        if (i % 8 == 0) { int s = GOOD + below(GOOD_END - GOOD); some_table(&pool[s]); send_table(s); }
+        if (i % 32 == 0) { int s = BAD + below(SLOTS - BAD); some_bad_table(&pool[s]); send_table(s); }
+        some_session();
+    }
+    for (uint64_t i = 0; i < others; i++) {
+        int slot = some_slot();
+        size_t n = some_length();
+        const uint32_t all = 0xffffffff;
+        fill_by_chance(bytes, n);
+        int wrong = one_in(16) ? (one_in(2) ? 1 : -1) : 0;
+        one_shot(slot, bytes, n, one_in(2) ? &all : NULL, wrong);
+        some_sheet(LOOKUP);
+        some_sheet(COMPARE);
+        if (i % 4 == 0) {
+            int s = BAD + below(SLOTS - BAD);
+            some_bad_table(&pool[s]);
+            send_table(s);
+            table_check(s);
+            table_check(GOOD + below(GOOD_END - GOOD));
+        }
+    }
+}

@@ -6,11 +6,11 @@ use Prim.Native.Nat.{ℕ, _+_, _-_, _*_, _≤_}
 use native.Mathlib.Omega.{arith}
 use borrow.Author.Tests.{leb-true, leb-false}
 use lib.Dec.{leb}
-use lib.ListN.{length, take, length-append}
-use lib.Seq.{paste, take-paste, length-paste, length-take-le, take-all}
+use lib.ListN.{length, take}
+use lib.Seq.{paste, take-paste, length-paste, take-all}
 use Rattle.word.specs.Choice.{pick}
 use Rattle.stream.specs.Fips.{be64}
-use Rattle.finish.specs.Finish.{paddingBytes, tailBlocks, padLen, tailOf}
+use Rattle.finish.specs.Finish.{tailBlocks}
 
 -- n blocks hold f bytes, the byte 80 and the length, and are the fewest that do
 pub record Room (f n : ℕ) : Type 0 where
@@ -28,14 +28,6 @@ tail-room f h = rooms f (leb f 55) refl h
 pub be64-length : (x : ℕ) → length (be64 x) ≡ 8
 unfolding be64
 be64-length x = refl
-
--- the last blocks are whole
-pub tail-length : (p : List ℕ) (f x : ℕ) → f ≤ 63 → f ≤ length p → length (tailOf p f x) ≡ 64 * tailBlocks f
-unfolding tailOf
-tail-length p f x h l =
-    let r = tail-room f h in
-    let e = be64-length (8 * x) in
-    simp (length-append, length-take-le f p l, length-take-le (padLen f) paddingBytes (omega arith)) (omega arith)
 
 -- three pieces stored one after the other, the second up to `end`
 pub tail-stored : (z p s q : List ℕ) (f end : ℕ) → f ≤ end → end + 8 ≤ length z → f ≤ length p → end - f ≤ length s → length q ≡ 8

@@ -6,6 +6,7 @@ use detect::Found;
 use detect::Mode;
 use detect::OneBlock;
 use detect::one_block;
+use file::file_fault;
 use file::file_words;
 use libc::STDOUT_FILENO;
 use refusal::is_nothing;
@@ -100,7 +101,7 @@ fn front(t: &[u32], n: usize) -> &[u32] {
     t
 }
 
-// The first n bytes of a block, or all of them.
+// The first n bytes of some, or all of them.
 fn part(block: &[u8], n: usize) -> &[u8] {
     if n <= block.len() {
         return &block[0..n];
@@ -108,26 +109,27 @@ fn part(block: &[u8], n: usize) -> &[u8] {
     block
 }
 
-// The records with one word of record 2 changed.
+// The records with one word changed.
 fn with_word(t: [u32; 2706], at: usize, x: u32) -> [u32; 2706]
     requires { ⌜ 2706 ≡ length t ⌝ }
     ensures { λ r. ⌜ 2706 ≡ length r ⌝ }
 {
     let mut u = t;
-    if at < 82 {
-        u[164 + at] = x;
+    if at < 2706 {
+        u[at] = x;
         return u;
     }
     t
 }
 
-// The one-block entry on 32 of them.
-fn changed(case: &[u8], at: usize, x: u32) {
+// 32 of the records with two words changed. All but those whose mask number was changed have mask number 0, which the
+// mask leaves out.
+fn changed(case: &[u8], at: usize, x: u32, also: usize, y: u32) {
     let mode = Mode {
         mitigate: false,
         reduced: false,
     };
-    let t = with_word(controls(), at, x);
+    let t = with_word(with_word(controls(), at, x), also, y);
     let block = abc();
     show(
         case,
@@ -141,11 +143,16 @@ fn limits(t: &[u32], block: &[u8]) {
         mitigate: false,
         reduced: false,
     };
+    let safe = Mode {
+        mitigate: true,
+        reduced: false,
+    };
     let one = front(t, 82);
     let most = front(t, 2624);
     let w = start();
     show(b"abc", one_block(w, block, one, 0, mode));
     show(b"32 records", one_block(w, block, most, 1, mode));
+    show(b"32 mitigated", one_block(w, block, most, 1, safe));
     show(b"33 records", one_block(w, block, t, 1, mode));
     show(b"no record", one_block(w, block, front(t, 0), 1, mode));
     show(b"83 words", one_block(w, block, front(t, 83), 1, mode));
@@ -153,14 +160,17 @@ fn limits(t: &[u32], block: &[u8]) {
     show(b"size first", one_block(w, part(block, 0), t, 1, mode));
 }
 
+// Record 2 starts at word 164, record 5 at word 410.
 fn records() {
-    changed(b"unchanged", 0, 0);
-    changed(b"mask number 31", 0, 31);
-    changed(b"mask number 32", 0, 32);
-    changed(b"step 58", 1, 58);
-    changed(b"step 64", 1, 64);
-    changed(b"step 65", 1, 65);
-    changed(b"last word", 81, 1);
+    changed(b"unchanged", 164, 0, 164, 0);
+    changed(b"mask number 31", 164, 31, 164, 31);
+    changed(b"mask number 32", 164, 32, 164, 32);
+    changed(b"step 64", 165, 64, 165, 64);
+    changed(b"step 65", 164, 1, 165, 65);
+    changed(b"last word", 245, 1, 245, 1);
+    changed(b"two records", 165, 64, 410, 32);
+    changed(b"two faults", 164, 32, 165, 64);
+    changed(b"later faults", 165, 64, 245, 1);
 }
 
 // Fills the buffer from a file, or says that it could not.
@@ -186,7 +196,7 @@ fn run(w: [u32; 5], m: &[u8], i: usize, table: &[u32], mask: u32, mode: Mode) ->
     one_block(w, m, table, mask, mode)
 }
 
-// The words after the first n blocks, without detection.
+// The words after the first n blocks: with mask 0 nothing is tried.
 fn after(m: &[u8], n: usize, table: &[u32]) -> [u32; 5] {
     let mode = Mode {
         mitigate: false,
@@ -225,6 +235,28 @@ fn modes(m: &[u8], i: usize, table: &[u32], mask: u32) {
     show(b"  safe, reduced", run(w, m, i, table, mask, safe_reduced));
 }
 
+// What is wrong with the first n bytes of a table file.
+fn file_of(bytes: &[u8], n: usize) {
+    let r = file_fault(part(bytes, n));
+    say(b"file of ");
+    say_decimal(n);
+    say(b" bytes: ");
+    say_decimal(number(r) as usize);
+    say(b" at ");
+    say_decimal(place(r));
+    say(b"\n");
+}
+
+fn lengths(bytes: &[u8]) {
+    file_of(bytes, 0);
+    file_of(bytes, 327);
+    file_of(bytes, 328);
+    file_of(bytes, 332);
+    file_of(bytes, 10496);
+    file_of(bytes, 10497);
+    file_of(bytes, 10824);
+}
+
 // Blocks of two published files under the real table.
 fn published(table: &[u32], shattered: &[u8], reduced: &[u8]) {
     say(b"shattered, block 3\n");
@@ -243,11 +275,14 @@ fn published(table: &[u32], shattered: &[u8], reduced: &[u8]) {
 
 fn files() {
     let mut bytes = [0u8; 10496];
+    let mut longer = [0u8; 10824];
     let mut shattered = [0u8; 320];
     let mut reduced = [0u8; 128];
     load(b"data/real-table.bin", &mut bytes);
     load(b"data/shattered-1.first320.bin", &mut shattered);
     load(b"data/sha1_reducedsha_coll.bin", &mut reduced);
+    load(b"data/longer-table.bin", &mut longer);
+    lengths(&longer);
     let table = file_words(&bytes);
     published(&table, &shattered, &reduced);
 }

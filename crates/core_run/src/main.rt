@@ -278,10 +278,10 @@ fn files() {
     let mut longer = [0u8; 10824];
     let mut shattered = [0u8; 320];
     let mut reduced = [0u8; 128];
-    load(b"data/real-table.bin", &mut bytes);
-    load(b"data/shattered-1.first320.bin", &mut shattered);
-    load(b"data/sha1_reducedsha_coll.bin", &mut reduced);
-    load(b"data/longer-table.bin", &mut longer);
+    load(b"real-table.bin", &mut bytes);
+    load(b"shattered-1.first320.bin", &mut shattered);
+    load(b"sha1_reducedsha_coll.bin", &mut reduced);
+    load(b"longer-table.bin", &mut longer);
     lengths(&longer);
     let table = file_words(&bytes);
     published(&table, &shattered, &reduced);

@@ -5,11 +5,13 @@ ghost use lib.ListN.{length, getD};
 ghost use Rattle.block.specs.Schedule.{wordAt};
 ghost use Rattle.file.specs.File.{mostWords, fileWords, wholeWords, fileFault};
 use refusal::Refusal;
+use table::MOST_RECORDS;
+use table::RECORD_WORDS;
 use table::table_fault;
 use word::be_word;
 
 // Words in the longest table.
-pub const MOST_WORDS: usize = 2624;
+pub const MOST_WORDS: usize = RECORD_WORDS * MOST_RECORDS;
 
 // Byte i, 0 past the end.
 fn byte_at(bytes: &[u8], i: usize) -> u8

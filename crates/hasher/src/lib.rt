@@ -67,7 +67,7 @@ fn zero_from(p: [u8; 64], from: usize) -> bool
     true
 }
 
-// Whether a hasher can have come from calls.
+// Whether a hasher is well formed. No call makes one that is not.
 pub fn well_formed(h: Hasher) -> bool
     ensures { λ r. ⌜ r ≡ wellFormed h ⌝ }
 {

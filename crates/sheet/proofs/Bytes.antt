@@ -9,6 +9,7 @@ use lib.Dec.{eqb}
 use lib.ListN.{length, getD, drop, drop-of-length-le}
 use lib.Seq.{drop-cons}
 use borrow.Author.Tests.{eqb-true, eq-eqb, ne-eqb}
+use Rattle.word.proofs.Tests.{unless-true}
 use Rattle.sheet.specs.Sheet.{sameBytes}
 
 same-equal : (x y : List ℕ) → sameBytes x y ≡ true → x ≡ y
@@ -29,12 +30,8 @@ same-self (a ∷ x) = rw (eq-eqb a a refl) (same-self x)
 pub same-exactly : (x y : List ℕ) → sameBytes x y ≡ true ↔ x ≡ y
 same-exactly x y = (same-equal x y, λ e. rw e (same-self y))
 
-is-false : (b : Bool) → (b ≡ true → ⊥) → b ≡ false
-is-false true h = absurd (h refl)
-is-false false h = refl
-
 pub other-lengths : (x y : List ℕ) → (length x ≡ length y → ⊥) → sameBytes x y ≡ false
-other-lengths x y h = is-false (sameBytes x y) (λ e. h (ap length (same-equal x y e)))
+other-lengths x y h = unless-true (sameBytes x y) (λ e. h (ap length (same-equal x y e)))
 
 -- the turns of a loop over both lists
 module _ (x y : List ℕ) (i : ℕ) (hx : i < length x) (hy : i < length y) where

@@ -55,14 +55,6 @@ pub steps-last : (w : List ℕ) (n t : ℕ) (s : Regs) → stepsOf w t (suc n) s
 unfolding stepsOf
 steps-last w n t s = ap (λ (k : ℕ). stepsOf w t k s) (sym (add-one n)) ∙ steps-add w n 1 t s
 
--- a run looks only at its own words
-pub steps-agree : (v w : List ℕ) (n t : ℕ) (s : Regs) → ((i : ℕ) → i < t + n → getD v i 0 ≡ getD w i 0) → stepsOf v t n s ≡ stepsOf w t n s
-unfolding stepsOf
-steps-agree v w zero t s h = refl
-steps-agree v w (suc n) t s h =
-    ap (λ (x : ℕ). stepsOf v (suc t) n (stepAt t s x)) (h t (omega arith))
-    ∙ steps-agree v w n (suc t) (stepAt t s (getD w t 0)) (λ i l. h i (omega arith))
-
 module _ (w : List ℕ) where
   pub steps-words : (n t : ℕ) (s : Regs) → Words s → Words (stepsOf w t n s)
   unfolding stepsOf stepAt

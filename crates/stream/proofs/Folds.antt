@@ -81,9 +81,3 @@ module _ (step : Chain → List ℕ → ℕ → Chain) where
       let d : n ≤ length (drop 1 ms) = omega (arith, length-drop 1 ms) in
       rw (run-suc n c xs (ms ++ ns), run-suc n c xs ms, List·getD-append ms ns allBits 0 l, drop-append-le 1 ms ns l)
       (run-masks n _ (drop 64 xs) (drop 1 ms) ns d)
-
-  -- nor is anything but the blocks
-  pub run-take : (n : ℕ) (c : Chain) (xs ms : List ℕ) → 64 * n ≤ length xs → run step n c xs ms ≡ run step n c (take (64 * n) xs) ms
-  run-take n c xs ms h =
-      ap (λ (ys : List ℕ). run step n c ys ms) (sym (take-append-drop (64 * n) xs))
-      ∙ run-front n c (take (64 * n) xs) (drop (64 * n) xs) ms (omega (arith, length-take-le (64 * n) xs h))

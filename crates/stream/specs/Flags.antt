@@ -14,16 +14,19 @@ defaults = record { detect = true; mitigate = true; masks = Lent; reduced = fals
 abbrev pub masksOf : Bool → Masks
 masksOf on = pick on Lent All
 
--- the flags with one of them set
+-- the flags with detection set
 abbrev pub withDetect : Flags → Bool → Flags
 withDetect f on = record { detect = on; mitigate = f .mitigate; masks = f .masks; reduced = f .reduced }
 
+-- with mitigation set
 abbrev pub withMitigate : Flags → Bool → Flags
 withMitigate f on = record { detect = f .detect; mitigate = on; masks = f .masks; reduced = f .reduced }
 
+-- with the masks setting
 abbrev pub withMasks : Flags → Masks → Flags
 withMasks f masks = record { detect = f .detect; mitigate = f .mitigate; masks = masks; reduced = f .reduced }
 
+-- with reduced-round mode set
 abbrev pub withReduced : Flags → Bool → Flags
 withReduced f on = record { detect = f .detect; mitigate = f .mitigate; masks = f .masks; reduced = on }
 

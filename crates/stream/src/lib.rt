@@ -38,29 +38,19 @@ impl Flags {
     }
 
     // Whether collisions are looked for at all.
-    pub fn detect_collision(self, on: bool) -> Flags
+    pub fn detect_collision(mut self, on: bool) -> Flags
         ensures { λ r. ⌜ r ≡ withDetect self on ⌝ }
     {
-        let masks = self.masks;
-        Flags {
-            detect: on,
-            mitigate: self.mitigate,
-            masks,
-            reduced: self.reduced,
-        }
+        self.detect = on;
+        self
     }
 
     // Whether a marked block is mitigated.
-    pub fn safe_hash(self, on: bool) -> Flags
+    pub fn safe_hash(mut self, on: bool) -> Flags
         ensures { λ r. ⌜ r ≡ withMitigate self on ⌝ }
     {
-        let masks = self.masks;
-        Flags {
-            detect: self.detect,
-            mitigate: on,
-            masks,
-            reduced: self.reduced,
-        }
+        self.mitigate = on;
+        self
     }
 
     // Whether a block is tried only with the vectors of its mask.
@@ -74,16 +64,11 @@ impl Flags {
     }
 
     // Whether a sibling that starts where the block starts marks it.
-    pub fn reduced_round_collision(self, on: bool) -> Flags
+    pub fn reduced_round_collision(mut self, on: bool) -> Flags
         ensures { λ r. ⌜ r ≡ withReduced self on ⌝ }
     {
-        let masks = self.masks;
-        Flags {
-            detect: self.detect,
-            mitigate: self.mitigate,
-            masks,
-            reduced: on,
-        }
+        self.reduced = on;
+        self
     }
 }
 

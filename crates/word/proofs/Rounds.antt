@@ -11,13 +11,6 @@ module _ (x y z : ℕ) (hx : x < 2 ^ 32) (hy : y < 2 ^ 32) (hz : z < 2 ^ 32) whe
   unfolding Ch not32
   choose = tabled (xor d (and b (xor c d))) (xor (and b c) (and (non b) d)) (search) 32 x y z hx hy hz
 
-  pub Ch-lt : Ch x y z < 2 ^ 32
-  unfolding Ch not32
-  Ch-lt = word-lt 32 x y z hx hy hz (xor (and b c) (and (non b) d))
-
-  pub Parity-lt : Parity x y z < 2 ^ 32
-  Parity-lt = word-lt 32 x y z hx hy hz (xor (xor b c) d)
-
   pub Maj-lt : Maj x y z < 2 ^ 32
   unfolding Maj
   Maj-lt = word-lt 32 x y z hx hy hz (xor (xor (and b c) (and b d)) (and c d))

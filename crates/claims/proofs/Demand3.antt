@@ -1,38 +1,35 @@
 -- Demand 3: a block is marked exactly when a selected sibling meets it. Assumes nothing.
-use mathlib.Core.Path.{_≡_, refl, sym, ap, ap₂, _∙_, subst}
+use mathlib.Core.Path.{_≡_, sym, ap, ap₂, _∙_, subst}
 use mathlib.Core.Logic.{⊎-elim, _↔_}
-use mathlib.Core.Bool.{Bool, true, false, _&&_, _||_, false≢true}
+use mathlib.Core.Bool.{Bool, true, false, false≢true}
 use mathlib.Core.List.{List}
-use Prim.Native.Nat.{ℕ, _+_, _*_, _^_, _≤_, _<_}
-use native.Mathlib.Nat.{zero-add}
+use Prim.Native.Nat.{ℕ, _+_, _*_}
 use native.Mathlib.Omega.{arith}
 use lib.Bits.{bitXor}
-use lib.ListN.{length, getD, take, drop}
+use lib.ListN.{getD, drop}
 use Rattle.word.specs.Lists.{AllWords, xorWords}
 use Rattle.word.proofs.Tests.{one-true}
 use Rattle.word.proofs.Words.{take-words, drop-words, list-same}
-use Rattle.step.specs.Step.{stepsOf, undosOf, sameRegs, Words}
+use Rattle.refusal.specs.declared.Refusal.the-variants.{Nothing}
+use Rattle.step.specs.Step.{stepsOf, undosOf, sameRegs, Words, regsOf}
 use Rattle.step.specs.declared.Regs.{Regs}
 use Rattle.step.proofs.Runs.{steps-words, undos-words, steps-undos, undos-steps}
 use Rattle.step.proofs.Same.{same-equal, same-self}
-use Rattle.block.specs.Schedule.{wordAt, wordsOf, scheduled, scheduleOf}
+use Rattle.block.specs.Schedule.{wordAt, wordsOf, scheduleOf}
 use Rattle.block.specs.Compress.{overSchedule, compressOf}
 use Rattle.block.specs.Sibling.{siblingOf, recompressed}
 use Rattle.block.proofs.Fill.{list-length}
 use Rattle.block.proofs.Growth.{schedule-at, word-given}
 use Rattle.block.proofs.Linear.{sibling-schedule, words-words}
 use Rattle.table.specs.Limits.{dmWords, recordWords}
-use Rattle.table.specs.Table.{recordsIn, testWordAt, dmAt}
-use Rattle.table.proofs.Good.{GoodRecord, GoodTable}
+use Rattle.table.specs.Table.{testWordAt, dmAt}
+use Rattle.table.proofs.Good.{GoodRecord, GoodTable, accepted}
 use Rattle.table.proofs.Rule.{obeys-at}
-use Rattle.detect.specs.Detect.{selects, testAt, siblingEnds, marks, foundIn, answerOf}
+use Rattle.detect.specs.Detect.{siblingEnds, marks, answerOf, oneBlockOf}
 use Rattle.detect.specs.declared.Mode.{Mode}
-use Rattle.detect.proofs.Ended.{Ended, found-ended, marked-some, some-marked}
-use Rattle.claims.specs.Sibling.{siblingWords, atTest, Reaches, EndsAlike, Meets, Met}
-
--- every element is a byte
-abbrev pub AllBytes : List ℕ → Type 0
-AllBytes xs = (i : ℕ) → getD xs i 0 < 256
+use Rattle.detect.proofs.Ended.{found-ended, marked-some, some-marked}
+use Rattle.claims.specs.Sibling.{AllBytes, siblingWords, stateAtTest, Reaches, Meets, Met}
+use Rattle.claims.proofs.OneBlock.{block-answered, block-table-good}
 
 module _ (h : Regs) (block table : List ℕ) (hw : Words h) (bytes : AllBytes block) (words : AllWords table) where
   module _ (i : ℕ) (good : GoodRecord table i) where
@@ -52,23 +49,23 @@ module _ (h : Regs) (block table : List ℕ) (hw : Words h) (bytes : AllBytes bl
     pub startOf : Regs
     startOf = siblingEnds h (scheduleOf (wordsOf block)) table i .start
 
-    start-is : startOf ≡ undosOf (scheduleOf (siblingWords block table i)) 0 (testWordAt table i) (atTest (wordsOf block) table i h)
+    start-is : startOf ≡ undosOf (scheduleOf (siblingWords block table i)) 0 (testWordAt table i) (stateAtTest (wordsOf block) table i h)
     unfolding startOf siblingEnds recompressed
     start-is =
         ap₂ (λ (u : List ℕ) (n : ℕ). undosOf u 0 n (stepsOf (scheduleOf (wordsOf block)) 0 n h)) sibling-is (good .step)
 
-    test-words : Words (atTest (wordsOf block) table i h)
+    test-words : Words (stateAtTest (wordsOf block) table i h)
     test-words = steps-words (scheduleOf (wordsOf block)) (testWordAt table i) 0 h hw
 
     -- it exists
     pub start-words : Words startOf
     start-words =
-        subst Words (sym start-is) (undos-words (scheduleOf (siblingWords block table i)) (testWordAt table i) 0 (atTest (wordsOf block) table i h) test-words)
+        subst Words (sym start-is) (undos-words (scheduleOf (siblingWords block table i)) (testWordAt table i) 0 (stateAtTest (wordsOf block) table i h) test-words)
 
     pub start-reaches : Reaches h block table i startOf
     start-reaches =
-        ap (atTest (siblingWords block table i) table i) start-is
-        ∙ steps-undos (scheduleOf (siblingWords block table i)) (testWordAt table i) 0 (atTest (wordsOf block) table i h) test-words
+        ap (stateAtTest (siblingWords block table i) table i) start-is
+        ∙ steps-undos (scheduleOf (siblingWords block table i)) (testWordAt table i) 0 (stateAtTest (wordsOf block) table i h) test-words
 
     -- and is the only one
     pub start-only : (s : Regs) → Words s → Reaches h block table i s → s ≡ startOf
@@ -112,3 +109,12 @@ module _ (h : Regs) (block table : List ℕ) (hw : Words h) (bytes : AllBytes bl
           λ m. some-marked _ _ e (m .place) (m .inside) (m .selected)
               (subst (λ (r : Bool). marks r h d table (m .place) ≡ true) (sym off) (meets-marks (m .place) (good .each (m .place) (m .inside)) (m .meets))) .0,
         )
+
+-- The one-block entry, where it refuses nothing and reduced-round mode is off, marks exactly when a selected sibling meets the block.
+module _ (five block table : List ℕ) (mask : ℕ) (mode : Mode) (words : AllWords five) (bytes : AllBytes block) (all : AllWords table) where
+  pub entry-marked-exactly : mode .reduced ≡ false → oneBlockOf five block table mask mode .refusal ≡ Nothing
+      → (oneBlockOf five block table mask mode .found .mark ≡ true) ↔ Met (regsOf five) block table mask
+  entry-marked-exactly off ok =
+      let five-words : Words (regsOf five) = record { a-lt = words 0; b-lt = words 1; c-lt = words 2; d-lt = words 3; e-lt = words 4 } in
+      rw (block-answered five block table mask mode ok)
+      (marked-exactly (regsOf five) block table five-words bytes all mode mask off (accepted table .0 (block-table-good five block table mask mode ok)))

@@ -24,7 +24,7 @@ use Rattle.claims.specs.Pieces.{Piece, bytesOf, taking, hashed, NoneRefu
 use Rattle.refusal.proofs.Chains.{nothing-is}
 use Rattle.claims.proofs.Calls.{closing-finish}
 use Rattle.claims.proofs.Kept.{finish-keeps, fresh-sound, pieces-sound}
-use Rattle.claims.proofs.Piecewise.{Ready, pieces-pass}
+use Rattle.claims.proofs.Piecewise.{Fitting, pieces-pass}
 use Rattle.claims.proofs.Whole.{flags-is, fill-is}
 use Rattle.claims.proofs.Fips.{fips-undetected}
 use Rattle.claims.proofs.Verdicts.{ok-exactly}
@@ -43,7 +43,7 @@ module _ (f : Flags) (table : List ℕ) (ps : List Piece) (last : List ℕ) (sho
   -- No cut of a message of at most 2^61-1 bytes is refused where the table is good and each block's mask is lent in its turn, if they are looked at.
   pub none-refused : tableRefusal f table ≡ Nothing → (usesMasks f ≡ true → InTurn ps last) → NoneRefused f table ps last
   none-refused good turn =
-      let r : Ready (freshOf f) table ps = record { sound = fresh-sound f; good = good; counts = λ u. turn u .updates } in
+      let r : Fitting (freshOf f) table ps = record { sound = fresh-sound f; good = good; counts = λ u. turn u .updates } in
       let e = pieces-pass ps (freshOf f) table r (omega arith) in
       let flags = flags-is f table ps e in
       record {

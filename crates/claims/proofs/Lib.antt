@@ -2,6 +2,8 @@
 pub mod Bench
 pub mod Demand3
 pub mod OneBlock
+pub mod Siblings
+pub mod Control
 pub mod Abc
 pub mod Padding
 pub mod Fips
@@ -14,6 +16,7 @@ pub mod Refusals
 pub mod Kept
 pub mod Close
 pub mod Settled
+pub mod Unseen
 -- the laws that they lean on
 pub mod Below
 pub mod Blocks
@@ -24,3 +27,4 @@ pub mod After
 pub mod Empty
 pub mod Piecewise
 pub mod Whole
+pub mod Along

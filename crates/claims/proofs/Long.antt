@@ -16,7 +16,7 @@ use Rattle.hasher.specs.declared.Hasher.{Hasher}
 use Rattle.claims.specs.Pieces.{Piece, bytesOf, piecewise, taking, Counted}
 use Rattle.hasher.proofs.Formed.{formed}
 use Rattle.claims.proofs.Kept.{fresh-sound}
-use Rattle.claims.proofs.Piecewise.{piecewise-cons, piecewise-next, Ready, ready-taken, ready-next, ready-taken-after}
+use Rattle.claims.proofs.Piecewise.{piecewise-cons, piecewise-next, Fitting, fitting-taken, fitting-next, fitting-taken-after}
 use Rattle.claims.proofs.Whole.{short-is}
 
 -- An update that would pass 2^61-1 bytes is refused 7, and hands its hasher back.
@@ -26,7 +26,7 @@ unfolding updated updateRefusal
 long-update h bytes table masks well long = rw (well, lt-ltb mostBytes (taken h + length bytes) long)
 
 -- pieces of which only the length can be refused
-pieces-long : (ps : List Piece) (h : Hasher) (table : List ℕ) → Ready h table ps → mostBytes < taken h + length (bytesOf ps)
+pieces-long : (ps : List Piece) (h : Hasher) (table : List ℕ) → Fitting h table ps → mostBytes < taken h + length (bytesOf ps)
     → piecewise h table ps .refusal ≡ MessageLength
 pieces-long [] h table r long = let a = formed h (r .sound .well) in absurd (omega arith)
 pieces-long (p ∷ ps) h table r long =
@@ -35,8 +35,8 @@ pieces-long (p ∷ ps) h table r long =
     (λ (z : over ≡ 0).
     let l = length-append (p .bytes) (bytesOf ps) in
     let g : taken h + length (p .bytes) ≤ mostBytes = omega arith in
-    let t = ready-taken-after h table p ps r g in
-    rw (piecewise-next h table p ps (ready-taken h table p ps r g)) (pieces-long ps _ table (ready-next h table p ps r g) (omega arith)))
+    let t = fitting-taken-after h table p ps r g in
+    rw (piecewise-next h table p ps (fitting-taken h table p ps r g)) (pieces-long ps _ table (fitting-next h table p ps r g) (omega arith)))
     (λ (z : 0 < over). rw (piecewise-cons h table p ps, long-update h (p .bytes) table (p .masks) (r .sound .well) (omega arith)))
     (eq-zero-or-pos over)
 

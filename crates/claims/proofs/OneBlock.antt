@@ -1,16 +1,21 @@
 -- What the answer for one block means: place and number tried, mask 0, the words, and the control record. Assumes nothing.
-use mathlib.Core.Path.{_≡_, refl, sym, ap, ap₂, _∙_, subst}
-use mathlib.Core.Bool.{Bool, true, false, _&&_, _||_, and-false}
+use mathlib.Core.Path.{_≡_, refl, sym, ap, ap₂, _∙_}
+use mathlib.Core.Bool.{Bool, true, false, and-false, false≢true}
 use mathlib.Core.List.{List}
-use Prim.Native.Nat.{ℕ, zero, _%_, _^_, _≤_, _<_}
+use Prim.Native.Nat.{ℕ, _%_, _≤_, _<_}
 use native.Mathlib.Nat.{div-eq-of-lt}
+use native.Mathlib.Omega.{arith}
 use lib.Bits.{bitXor, xor-zero-r}
 use lib.Dec.{eqb}
-use lib.ListN.{length, getD, replicate, getD-replicate}
+use lib.ListN.{length, replicate, getD-replicate}
 use lib.Pow.{pow-pos}
-use Rattle.word.specs.Lists.{listOf, xorWords}
+use Rattle.word.specs.Choice.{pick}
 use Rattle.word.proofs.Words.{list-same}
-use Rattle.step.specs.Step.{stepsOf, undosOf, sameRegs, Words}
+use Rattle.refusal.specs.Refusal.{numberOf, isNothing}
+use Rattle.refusal.specs.declared.Refusal.{Refusal}
+use Rattle.refusal.specs.declared.Refusal.the-variants.{Nothing, Size}
+use Rattle.refusal.proofs.Chains.{nothing-is}
+use Rattle.step.specs.Step.{Words, regsOf}
 use Rattle.step.specs.declared.Regs.{Regs}
 use Rattle.step.proofs.Runs.{undos-steps}
 use Rattle.step.proofs.Same.{same-self}
@@ -19,10 +24,12 @@ use Rattle.block.specs.Compress.{overSchedule, compressOf}
 use Rattle.block.specs.Sibling.{siblingOf, recompressed}
 use Rattle.block.proofs.Growth.{word, schedule-list, schedule-at}
 use Rattle.table.specs.Limits.{dmWords}
-use Rattle.table.specs.Table.{recordsIn, maskNumberAt, dmAt}
-use Rattle.detect.specs.Detect.{hasBit, selects, testAt, siblingEnds, marks, foundIn, answerOf}
+use Rattle.table.specs.Table.{recordsIn, maskNumberAt, dmAt, tableFault}
+use Rattle.detect.specs.Detect.{hasBit, selects, testAt, siblingEnds, marks, foundIn, answerOf, oneBlockRefusal, refusedBlock, answeredBlock, oneBlockOf}
 use Rattle.detect.specs.declared.Mode.{Mode}
-use Rattle.detect.proofs.Ended.{Ended, found-ended, some-marked, none-tried}
+use Rattle.detect.specs.declared.OneBlock.{OneBlock}
+use Rattle.detect.specs.Ended.{Ended}
+use Rattle.detect.proofs.Ended.{found-ended, some-marked, none-tried}
 
 module _ (mode : Mode) (table : List ℕ) (h : Regs) (block : List ℕ) (mask : ℕ) where
   -- the first selected record that marks ends the search; tried counts the selected ones up to it, or all
@@ -55,6 +62,32 @@ pub mask-zero : (mode : Mode) (table : List ℕ) (h : Regs) (block : List ℕ)
 unfolding answerOf foundIn
 mask-zero mode table h block =
     none-tried (selects 0 table) (marks (mode .reduced) h (scheduleOf (wordsOf block)) table) (λ j. no-bits (maskNumberAt table j)) (recordsIn (length table)) 0 0
+
+-- an entry that refuses nothing gives the answer, and has found nothing wrong with the table
+module _ (five block table : List ℕ) (mask : ℕ) (mode : Mode) where
+  abbrev answer : OneBlock
+  answer = answeredBlock (answerOf mode table (regsOf five) block mask)
+
+  by-refusal : (b : Bool) (r : Refusal) → isNothing r ≡ b → pick b answer (refusedBlock r) .refusal ≡ Nothing
+      → (pick b answer (refusedBlock r) ≡ answer) × (r ≡ Nothing)
+  by-refusal true r k e = (refl, nothing-is r k)
+  by-refusal false r k e = absurd (false≢true (sym k ∙ ap isNothing e))
+
+  unrefused : oneBlockOf five block table mask mode .refusal ≡ Nothing
+      → (oneBlockOf five block table mask mode ≡ answer) × (oneBlockRefusal (length block) table ≡ Nothing)
+  unfolding oneBlockOf
+  unrefused e = by-refusal (isNothing (oneBlockRefusal (length block) table)) (oneBlockRefusal (length block) table) refl e
+
+  pub block-answered : oneBlockOf five block table mask mode .refusal ≡ Nothing
+      → oneBlockOf five block table mask mode ≡ answeredBlock (answerOf mode table (regsOf five) block mask)
+  block-answered e = unrefused e .0
+
+  pub block-table-good : oneBlockOf five block table mask mode .refusal ≡ Nothing → tableFault table ≡ Nothing
+  block-table-good e = sized-table (eqb (length block) 64) (unrefused e .1)
+    where
+      sized-table : (b : Bool) → pick b (tableFault table) Size ≡ Nothing → tableFault table ≡ Nothing
+      sized-table true k = k
+      sized-table false k = absurd (omega (arith, ap numberOf k))
 
 -- the control record's sibling is the block itself
 own-sibling : (m : List ℕ) → siblingOf (scheduleOf m) (replicate dmWords 0) ≡ scheduleOf m

@@ -12,7 +12,7 @@ use Rattle.table.specs.Table.{tableFault}
 use Rattle.stream.specs.Flags.{defaults}
 use Rattle.hasher.specs.Hasher.{mostBytes, tableRefusal, updated, freshOf}
 use Rattle.finish.specs.Finish.{tailBlocks, oneShotRefusal, oneShotChain, digested}
-use Rattle.claims.specs.Pieces.{Piece, bytesOf, masksOf, taking, hashed, inTwo, NoneRefused, InTurn}
+use Rattle.claims.specs.Pieces.{Piece, bytesOf, lentMasks, taking, hashed, inTwo, NoneRefused, InTurn}
 use Rattle.claims.proofs.Calls.{passed, finish-closing}
 use Rattle.claims.proofs.Kept.{fresh-sound}
 use Rattle.claims.proofs.Cut.{cut}
@@ -31,7 +31,7 @@ shot n table masks e =
 
 module _ (table : List ℕ) (ps : List Piece) (last : List ℕ) where
   -- such a one is not refused where the updates and the finish are not
-  taken : NoneRefused defaults table ps last → oneShotRefusal (length (bytesOf ps)) table (masksOf ps ++ last) ≡ Nothing
+  taken : NoneRefused defaults table ps last → oneShotRefusal (length (bytesOf ps)) table (lentMasks ps ++ last) ≡ Nothing
   unfolding oneShotRefusal
   taken ok =
       let e = ok .updates in
@@ -43,21 +43,21 @@ module _ (table : List ℕ) (ps : List Piece) (last : List ℕ) where
       let t : tableRefusal defaults table ≡ Nothing = rw flags at (a .good) in
       rw (
         le-ltb mostBytes n (short-is defaults table ps e),
-        eq-eqb (length (masksOf ps ++ last)) (n / 64 + tailBlocks (n % 64)) (omega (arith, length-append (masksOf ps) last)),
+        eq-eqb (length (lentMasks ps ++ last)) (n / 64 + tailBlocks (n % 64)) (omega (arith, length-append (lentMasks ps) last)),
       )
       t
 
   -- Where neither an update nor the finish is refused, the one-shot form has their outcome and digest.
   pub one-shot-agrees : NoneRefused defaults table ps last
-      → digested (bytesOf ps) table (masksOf ps ++ last)
+      → digested (bytesOf ps) table (lentMasks ps ++ last)
       ≡ record { outcome = hashed defaults table ps last .outcome; digest = hashed defaults table ps last .digest }
   unfolding digested oneShotChain
   one-shot-agrees ok = rw (taken ok, hashed-by defaults table ps last ok)
 
   -- What the one-shot form takes, the updates and the finish take, with each block's mask in its turn.
-  pub one-shot-cut : InTurn ps last → oneShotRefusal (length (bytesOf ps)) table (masksOf ps ++ last) ≡ Nothing → NoneRefused defaults table ps last
+  pub one-shot-cut : InTurn ps last → oneShotRefusal (length (bytesOf ps)) table (lentMasks ps ++ last) ≡ Nothing → NoneRefused defaults table ps last
   one-shot-cut turn e =
-      let k = shot (length (bytesOf ps)) table (masksOf ps ++ last) e in
+      let k = shot (length (bytesOf ps)) table (lentMasks ps ++ last) e in
       none-refused defaults table ps last (k .0) (k .2) (λ u. turn)
 
 -- So the one-shot form, not refused, has the outcome and digest of one update, with the masks of the whole blocks, and a finish, with the rest.

@@ -14,7 +14,7 @@ use Rattle.hasher.specs.Hasher.{mostBytes, wellFormed, taken, tableRefusal, abs
 use Rattle.hasher.specs.declared.Hasher.{Hasher}
 use Rattle.hasher.specs.declared.Updated.{Updated}
 use Rattle.claims.specs.Sound.{Sized, Sound}
-use Rattle.claims.specs.Pieces.{Piece, bytesOf, masksOf, piecewise, Counted}
+use Rattle.claims.specs.Pieces.{Piece, bytesOf, lentMasks, piecewise, Counted}
 use Rattle.claims.proofs.Updates.{stream-length, absorb-cut}
 use Rattle.refusal.proofs.Chains.{nothing-is}
 use Rattle.hasher.proofs.Formed.{formed}
@@ -67,15 +67,15 @@ taken-cut h d e table ms ns long a b =
     }
 
 pub pieces-taken : (p : Piece) (ps : List Piece) (h : Hasher) (table : List ℕ) → Sized h → piecewise h table (p ∷ ps) .refusal ≡ Nothing
-    → Taken h (bytesOf (p ∷ ps)) table (masksOf (p ∷ ps))
+    → Taken h (bytesOf (p ∷ ps)) table (lentMasks (p ∷ ps))
 pieces-taken p [] h table size e = rw (append-nil (p .bytes), append-nil (p .masks)) (first-taken h table p [] e)
 pieces-taken p (q ∷ ps) h table size e =
     let a = first-taken h table p (q ∷ ps) e in
     let i = pieces-taken q ps _ table (sized-after h (p .bytes) table (p .masks)) (rw (piecewise-next h table p (q ∷ ps) a) at e) in
-    taken-cut h (p .bytes) (bytesOf (q ∷ ps)) table (p .masks) (masksOf (q ∷ ps)) (size .pending-size) a i
+    taken-cut h (p .bytes) (bytesOf (q ∷ ps)) table (p .masks) (lentMasks (q ∷ ps)) (size .pending-size) a i
 
 pub pieces-absorbed : (ps : List Piece) (h : Hasher) (table : List ℕ) → Sized h → wellFormed h ≡ true → piecewise h table ps .refusal ≡ Nothing
-    → piecewise h table ps ≡ record { refusal = Nothing; hasher = absorbed h (bytesOf ps) table (masksOf ps) }
+    → piecewise h table ps ≡ record { refusal = Nothing; hasher = absorbed h (bytesOf ps) table (lentMasks ps) }
 pieces-absorbed [] h table size well e = rw (piecewise-nil h table, absorb-none h size well table [])
 pieces-absorbed (p ∷ ps) h table size well e =
     let a = first-taken h table p ps e in
@@ -83,42 +83,42 @@ pieces-absorbed (p ∷ ps) h table size well e =
     let l = stream-length h (p .bytes) (size .pending-size) (formed h well .fill-le) in
     n
     ∙ pieces-absorbed ps _ table (sized-after h (p .bytes) table (p .masks)) (formed-after h (p .bytes) table (p .masks) (size .pending-size) a) (rw n at e)
-    ∙ rw (absorb-cut h (p .bytes) (bytesOf ps) table (p .masks) (masksOf ps) (λ u. rw l (a .counts u)))
+    ∙ rw (absorb-cut h (p .bytes) (bytesOf ps) table (p .masks) (lentMasks ps) (λ u. rw l (a .counts u)))
 
 -- pieces of which only the length can be refused: the hasher is sound, the table good, and there is a mask for each block
-pub record Ready (h : Hasher) (table : List ℕ) (ps : List Piece) : Type 0 where
+pub record Fitting (h : Hasher) (table : List ℕ) (ps : List Piece) : Type 0 where
   pub sound : Sound h
   pub good : tableRefusal (h .flags) table ≡ Nothing
   pub counts : usesMasks (h .flags) ≡ true → Counted (h .fill) ps
 
-module _ (h : Hasher) (table : List ℕ) (p : Piece) (ps : List Piece) (r : Ready h table (p ∷ ps)) (fits : taken h + length (p .bytes) ≤ mostBytes) where
-  pub ready-taken : Taken h (p .bytes) table (p .masks)
-  ready-taken = record { well = r .sound .well; fits = fits; counts = λ u. r .counts u .0; good = r .good }
+module _ (h : Hasher) (table : List ℕ) (p : Piece) (ps : List Piece) (r : Fitting h table (p ∷ ps)) (fits : taken h + length (p .bytes) ≤ mostBytes) where
+  pub fitting-taken : Taken h (p .bytes) table (p .masks)
+  fitting-taken = record { well = r .sound .well; fits = fits; counts = λ u. r .counts u .0; good = r .good }
 
-  pub ready-next : Ready (absorbed h (p .bytes) table (p .masks)) table ps
-  ready-next =
+  pub fitting-next : Fitting (absorbed h (p .bytes) table (p .masks)) table ps
+  fitting-next =
       let d = p .bytes in
       let ms = p .masks in
       let long = r .sound .size .pending-size in
       let f = flags-after h d table ms in
       record {
-        sound = record { size = sized-after h d table ms; well = formed-after h d table ms long ready-taken };
+        sound = record { size = sized-after h d table ms; well = formed-after h d table ms long fitting-taken };
         good = rw f (r .good);
         counts = λ u. rw (fill-after h d table ms long (formed h (r .sound .well) .fill-le)) (r .counts (sym (ap usesMasks f) ∙ u) .1);
       }
 
-  pub ready-taken-after : taken (absorbed h (p .bytes) table (p .masks)) ≡ taken h + length (p .bytes)
-  ready-taken-after = taken-after h (p .bytes) table (p .masks) (r .sound .size .pending-size) ready-taken
+  pub fitting-taken-after : taken (absorbed h (p .bytes) table (p .masks)) ≡ taken h + length (p .bytes)
+  fitting-taken-after = taken-after h (p .bytes) table (p .masks) (r .sound .size .pending-size) fitting-taken
 
 -- such pieces pass if the message is short enough
-pub pieces-pass : (ps : List Piece) (h : Hasher) (table : List ℕ) → Ready h table ps → taken h + length (bytesOf ps) ≤ mostBytes
+pub pieces-pass : (ps : List Piece) (h : Hasher) (table : List ℕ) → Fitting h table ps → taken h + length (bytesOf ps) ≤ mostBytes
     → piecewise h table ps .refusal ≡ Nothing
 pieces-pass [] h table r fits = rw (piecewise-nil h table)
 pieces-pass (p ∷ ps) h table r fits =
     let l = length-append (p .bytes) (bytesOf ps) in
     let g : taken h + length (p .bytes) ≤ mostBytes = omega arith in
-    let t = ready-taken-after h table p ps r g in
-    rw (piecewise-next h table p ps (ready-taken h table p ps r g)) (pieces-pass ps _ table (ready-next h table p ps r g) (omega arith))
+    let t = fitting-taken-after h table p ps r g in
+    rw (piecewise-next h table p ps (fitting-taken h table p ps r g)) (pieces-pass ps _ table (fitting-next h table p ps r g) (omega arith))
 
 -- what every update keeps, updates one after the other keep
 pub of-pieces : (P : Hasher → Type 0) → ((h : Hasher) → P h → (bytes table masks : List ℕ) → P (updated h bytes table masks .hasher))

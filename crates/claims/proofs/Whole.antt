@@ -15,7 +15,7 @@ use Rattle.stream.specs.declared.Flags.{Flags}
 use Rattle.hasher.specs.Hasher.{mostBytes, absorbed, freshOf}
 use Rattle.finish.specs.Finish.{lastChain, finished}
 use Rattle.finish.specs.declared.Outcome.the-variants.{Done}
-use Rattle.claims.specs.Pieces.{Piece, bytesOf, masksOf, taking, hashed, blockMasks, NoneRefused}
+use Rattle.claims.specs.Pieces.{Piece, bytesOf, lentMasks, taking, hashed, blockMasks, NoneRefused}
 use Rattle.claims.specs.Marked.{againBy, blocksIn, sha1Marked, markedAt}
 use Rattle.claims.proofs.Below.{anyBelow}
 use Rattle.claims.proofs.Blocks.{run-words}
@@ -31,11 +31,11 @@ start = record { words = initial; mark = false }
 module _ (f : Flags) (table : List ℕ) where
   -- the hasher after the updates
   pub taking-is : (ps : List Piece) → taking f table ps .refusal ≡ Nothing
-      → taking f table ps ≡ record { refusal = Nothing; hasher = absorbed (freshOf f) (bytesOf ps) table (masksOf ps) }
+      → taking f table ps ≡ record { refusal = Nothing; hasher = absorbed (freshOf f) (bytesOf ps) table (lentMasks ps) }
   taking-is ps e = pieces-absorbed ps (freshOf f) table (fresh-sound f .size) (fresh-sound f .well) e
 
   -- what is known of a message whose updates are not refused: its masks, its length, the flags and the fill that it leaves
-  pub masks-counted : (ps : List Piece) → taking f table ps .refusal ≡ Nothing → usesMasks f ≡ true → length (masksOf ps) ≡ length (bytesOf ps) / 64
+  pub masks-counted : (ps : List Piece) → taking f table ps .refusal ≡ Nothing → usesMasks f ≡ true → length (lentMasks ps) ≡ length (bytesOf ps) / 64
   masks-counted [] e u = refl
   masks-counted (p ∷ ps) e u =
       let c = pieces-taken p ps (freshOf f) table (fresh-sound f .size) e .counts u in
@@ -48,10 +48,10 @@ module _ (f : Flags) (table : List ℕ) where
       omega arith
 
   pub flags-is : (ps : List Piece) → taking f table ps .refusal ≡ Nothing → taking f table ps .hasher .flags ≡ f
-  flags-is ps e = rw (taking-is ps e) (flags-after (freshOf f) (bytesOf ps) table (masksOf ps))
+  flags-is ps e = rw (taking-is ps e) (flags-after (freshOf f) (bytesOf ps) table (lentMasks ps))
 
   pub fill-is : (ps : List Piece) → taking f table ps .refusal ≡ Nothing → taking f table ps .hasher .fill ≡ length (bytesOf ps) % 64
-  fill-is ps e = rw (taking-is ps e) (fill-after (freshOf f) (bytesOf ps) table (masksOf ps) refl (omega arith) ∙ omega arith)
+  fill-is ps e = rw (taking-is ps e) (fill-after (freshOf f) (bytesOf ps) table (lentMasks ps) refl (omega arith) ∙ omega arith)
 
   module _ (ps : List Piece) (last : List ℕ) (ok : NoneRefused f table ps last) where
     -- the chain after all blocks
@@ -60,7 +60,7 @@ module _ (f : Flags) (table : List ℕ) where
 
     last-chain : lastChain (taking f table ps .hasher) table last ≡ wholeChain
     last-chain =
-        rw (taking-is ps (ok .updates)) (last-chain-is f (bytesOf ps) table (masksOf ps) last (masks-counted ps (ok .updates)))
+        rw (taking-is ps (ok .updates)) (last-chain-is f (bytesOf ps) table (lentMasks ps) last (masks-counted ps (ok .updates)))
 
     -- the answer, by the chain
     pub hashed-by : hashed f table ps last

@@ -2,3 +2,6 @@ pub mod Sibling
 pub mod Sound
 pub mod Pieces
 pub mod Marked
+pub mod Settings
+pub mod Message
+pub mod Control

@@ -26,9 +26,9 @@ bytesOf [] = []
 bytesOf (p ∷ ps) = p .bytes ++ bytesOf ps
 
 -- the masks of all its pieces
-abbrev pub masksOf : List Piece → List ℕ
-masksOf [] = []
-masksOf (p ∷ ps) = p .masks ++ masksOf ps
+abbrev pub lentMasks : List Piece → List ℕ
+lentMasks [] = []
+lentMasks (p ∷ ps) = p .masks ++ lentMasks ps
 
 -- an update for each piece, in order; the first refusal ends them
 unfoldable pub piecewise : Hasher → List ℕ → List Piece → Updated
@@ -51,7 +51,7 @@ inTwo bytes table first last = finished (updated (freshOf defaults) bytes table 
 
 -- the masks of a message's blocks, padding included: those lent, or none where they are not looked at
 abbrev pub blockMasks : Flags → List Piece → List ℕ → List ℕ
-blockMasks f ps last = lent f (masksOf ps ++ last)
+blockMasks f ps last = lent f (lentMasks ps ++ last)
 
 -- no call is refused, neither an update nor the finish
 pub record NoneRefused (f : Flags) (table : List ℕ) (ps : List Piece) (last : List ℕ) : Type 0 where

@@ -3,7 +3,7 @@ use mathlib.Core.Path.{_≡_}
 use mathlib.Core.Bool.{true}
 use mathlib.Core.List.{List}
 use Prim.Native.Nat.{ℕ, _<_}
-use lib.ListN.{length}
+use lib.ListN.{length, getD}
 use Rattle.word.specs.Lists.{xorWords}
 use Rattle.step.specs.Step.{stepsOf, Words}
 use Rattle.step.specs.declared.Regs.{Regs}
@@ -12,17 +12,21 @@ use Rattle.block.specs.Compress.{overSchedule, compressOf}
 use Rattle.table.specs.Table.{recordsIn, testWordAt, dmAt}
 use Rattle.detect.specs.Detect.{selects}
 
+-- every element is a byte
+abbrev pub AllBytes : List ℕ → Type 0
+AllBytes xs = (i : ℕ) → getD xs i 0 < 256
+
 -- the sixteen words of the sibling block by record i: the block's own, `xor` the record's first sixteen difference words
 abbrev pub siblingWords : List ℕ → List ℕ → ℕ → List ℕ
 siblingWords block table i = xorWords 16 (wordsOf block) (dmAt table i)
 
 -- the state after the steps before record i's test step, from the start s, of the block with these sixteen words
-abbrev pub atTest : List ℕ → List ℕ → ℕ → Regs → Regs
-atTest words table i s = stepsOf (scheduleOf words) 0 (testWordAt table i) s
+abbrev pub stateAtTest : List ℕ → List ℕ → ℕ → Regs → Regs
+stateAtTest words table i s = stepsOf (scheduleOf words) 0 (testWordAt table i) s
 
 -- from the start s the sibling reaches the block's own state at the test step
 abbrev pub Reaches : Regs → List ℕ → List ℕ → ℕ → Regs → Type 0
-Reaches h block table i s = atTest (siblingWords block table i) table i s ≡ atTest (wordsOf block) table i h
+Reaches h block table i s = stateAtTest (siblingWords block table i) table i s ≡ stateAtTest (wordsOf block) table i h
 
 -- from the start s the sibling ends in the block's output before mitigation
 abbrev pub EndsAlike : Regs → List ℕ → List ℕ → ℕ → Regs → Type 0

@@ -13,27 +13,16 @@ use Rattle.step.specs.declared.Regs.{Regs}
 use Rattle.table.specs.Table.{recordsIn}
 use Rattle.detect.specs.Detect.{selects, marks, foundIn}
 use Rattle.detect.specs.Search.{searchFrom, countOf}
+use Rattle.detect.specs.Ended.{NoneMarks, Ended, hit, miss}
 use Rattle.detect.specs.declared.Found.{Found}
 
 module _ (selected marks : ℕ → Bool) where
-  -- no place from i on and below n is selected and marks
-  abbrev pub NoneMarks : ℕ → ℕ → Type 0
-  NoneMarks i n = (j : ℕ) → i ≤ j → j < n → selected j ≡ true → marks j ≡ false
-
-  -- what a search through the places from i on and below n may end with
-  pub data Ended (n i : ℕ) : Found → Type 0 where
-    -- the first selected place that marks, with the selected ones up to it and with it
-    hit : (p : ℕ) → i ≤ p → p < n → selected p ≡ true → marks p ≡ true → NoneMarks i p
-        → Ended n i (record { mark = true; place = p; tried = countOf selected (suc p) })
-    -- no mark, place 0, and all selected ones
-    miss : NoneMarks i n → Ended n i (record { mark = false; place = 0; tried = countOf selected n })
-
-  front : (i p : ℕ) → (selected i ≡ true → marks i ≡ false) → NoneMarks (suc i) p → NoneMarks i p
+  front : (i p : ℕ) → (selected i ≡ true → marks i ≡ false) → NoneMarks selected marks (suc i) p → NoneMarks selected marks i p
   front i p h none j a b s =
       ⊎-elim (λ e. subst (λ (k : ℕ). selected k ≡ true → marks k ≡ false) e h s) (λ l. none j l b s) (eq-or-lt-of-le a)
 
   -- one place more in front, which is not selected or does not mark
-  widen : (n i : ℕ) {f : Found} → (selected i ≡ true → marks i ≡ false) → Ended n (suc i) f → Ended n i f
+  widen : (n i : ℕ) {f : Found} → (selected i ≡ true → marks i ≡ false) → Ended selected marks n (suc i) f → Ended selected marks n i f
   widen n i h (hit p a b s m none) = hit p (omega arith) b s m (front i p h none)
   widen n i h (miss none) = miss (front i n h none)
 
@@ -41,15 +30,15 @@ module _ (selected marks : ℕ → Bool) where
   unfolding countOf
   counted i b e = rw e
 
-  pub ended : (m i : ℕ) → Ended (i + m) i (searchFrom selected marks i m (countOf selected i))
+  pub ended : (m i : ℕ) → Ended selected marks (i + m) i (searchFrom selected marks i m (countOf selected i))
   unfolding searchFrom
   ended zero i =
       let n : i + 0 ≡ i = add-zero i in
-      subst (λ (k : ℕ). Ended (i + 0) i (record { mark = false; place = 0; tried = countOf selected k })) n (miss (λ j a b s. absurd (omega arith)))
+      subst (λ (k : ℕ). Ended selected marks (i + 0) i (record { mark = false; place = 0; tried = countOf selected k })) n (miss (λ j a b s. absurd (omega arith)))
   ended (suc m) i = go (ended m (suc i)) (selected i) (marks i) refl refl
     where
-      go : Ended (suc i + m) (suc i) (searchFrom selected marks (suc i) m (countOf selected (suc i))) → (b d : Bool) → selected i ≡ b → marks i ≡ d
-          → Ended (i + suc m) i (pick (selected i) (pick (marks i) (record { mark = true; place = i; tried = suc (countOf selected i) }) (searchFrom selected marks (suc i) m (suc (countOf selected i)))) (searchFrom selected marks (suc i) m (countOf selected i)))
+      go : Ended selected marks (suc i + m) (suc i) (searchFrom selected marks (suc i) m (countOf selected (suc i))) → (b d : Bool) → selected i ≡ b → marks i ≡ d
+          → Ended selected marks (i + suc m) i (pick (selected i) (pick (marks i) (record { mark = true; place = i; tried = suc (countOf selected i) }) (searchFrom selected marks (suc i) m (suc (countOf selected i)))) (searchFrom selected marks (suc i) m (countOf selected i)))
       go r true true s e =
           let t : suc (countOf selected i) ≡ countOf selected (suc i) = sym (add-one (countOf selected i)) ∙ sym (counted i true s) in
           rw (s, e, t) (hit i (le-refl i) (omega arith) s e (λ j a b. absurd (omega arith)))
@@ -63,12 +52,12 @@ module _ (selected marks : ℕ → Bool) where
           rw (s, t, n) (widen (suc i + m) i (λ u. absurd (false≢true (sym s ∙ u))) r)
 
   -- marked exactly when some place is selected and marks
-  pub marked-some : {n : ℕ} {f : Found} → Ended n 0 f → f .mark ≡ true → (j : ℕ) × (j < n) × (selected j ≡ true) × (marks j ≡ true)
+  pub marked-some : {n : ℕ} {f : Found} → Ended selected marks n 0 f → f .mark ≡ true → (j : ℕ) × (j < n) × (selected j ≡ true) × (marks j ≡ true)
   marked-some (hit p a b s m none) e = (p, b, s, m)
   marked-some (miss none) e = absurd (false≢true e)
 
   -- and then no later than any such place
-  pub some-marked : {n : ℕ} {f : Found} → Ended n 0 f → (j : ℕ) → j < n → selected j ≡ true → marks j ≡ true → (f .mark ≡ true) × (f .place ≤ j)
+  pub some-marked : {n : ℕ} {f : Found} → Ended selected marks n 0 f → (j : ℕ) → j < n → selected j ≡ true → marks j ≡ true → (f .mark ≡ true) × (f .place ≤ j)
   some-marked (hit p a b s m none) j l t e =
       let q : p < suc j = lt-of-not-le (λ k. false≢true (sym (none j (omega arith) k t) ∙ e)) in
       (refl, omega arith)

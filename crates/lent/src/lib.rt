@@ -1,6 +1,7 @@
 // An update where the hasher lies, as the Rust's `Update::update` is. It is thin: the by-value update does the work.
 ghost use mathlib.Core.Path.{_≡_};
 ghost use Rattle.hasher.specs.Hasher.{updated};
+ghost use Rattle.lent.specs.InPlace.{InPlace};
 use hasher::Hasher;
 use hasher::Updated;
 use hasher::update;
@@ -8,8 +9,7 @@ use refusal::Refusal;
 
 // A piece of the message, and the hasher changed in place. On a refusal it stays as it was.
 pub fn update_in_place(h: &mut Hasher, bytes: &[u8], table: &[u32], masks: &[u32]) -> Refusal
-    ensures { λ r. ⌜ (now (h .exit) ≡ updated (now (h .entry)) (now (bytes .entry)) (now (table .entry)) (now (masks .entry)) .hasher)
-        × (r ≡ updated (now (h .entry)) (now (bytes .entry)) (now (table .entry)) (now (masks .entry)) .refusal) ⌝ }
+    ensures { λ r. ⌜ InPlace (now (h .entry)) (now (bytes .entry)) (now (table .entry)) (now (masks .entry)) r (now (h .exit)) ⌝ }
 {
     let u = update(*h, bytes, table, masks);
     *h = u.hasher;

@@ -1,0 +1,68 @@
+-- `purserumble::arguments` meets its contract. The invariant: the words so far ask for the setting. Assumes nothing.
+use mathlib.Core.Path.{sym, _∙_}
+use mathlib.Core.List.{[], _∷_, _++_}
+use Prim.Native.Nat.{_-_, _^_, _<_}
+use native.Mathlib.Omega.{arith}
+use borrow.Author.Needs.{needs}
+use Rattle.console.proofs.Settings.{setting-none, setting-more}
+use Rattle.purserumble.specs.Run.{Asks}
+use Rattle.purserumble.proofs.arguments.Statement.{statement}
+use Rattle.purserumble.proofs.arguments.Tie as tie
+
+abbrev Inv-loop : tie.InvT-loop
+Inv-loop setting₀ place₀ i₀ i-end setting place i = Asks setting × (i-end < 2 ^ 64)
+
+abbrev μ-loop : tie.MeasureT-loop
+μ-loop setting₀ place₀ i₀ i-end setting place i = i-end - i
+
+new-requires : tie.Need-new-requires Inv-loop μ-loop
+new-requires c κs = search needs
+
+arg-count-requires : tie.Need-arg-count-requires Inv-loop μ-loop
+arg-count-requires c κs = search needs
+
+loop-holds : tie.Need-loop-holds Inv-loop μ-loop
+loop-holds c = (record { words = []; asked = c .before .new .ensures ∙ sym setting-none }, search needs)
+
+argument-requires : tie.Need-argument-requires Inv-loop μ-loop
+argument-requires c κs = search needs
+
+with-requires : tie.Need-with-requires Inv-loop μ-loop
+with-requires c κs = search needs
+
+placed-requires : tie.Need-placed-requires Inv-loop μ-loop
+placed-requires c κs = search needs
+
+add-i : tie.Need-add-i Inv-loop μ-loop
+add-i c = search needs
+
+loop-less : tie.Need-loop-less Inv-loop μ-loop
+loop-less c = search needs
+
+loop-again : tie.Need-loop-again Inv-loop μ-loop
+loop-again c =
+    let w = c .before .before .argument .result in
+    let l = c .before .before .before .before .loop .inv in (
+      record { words = l .0 .words ++ (w ∷ []); asked = rw (c .before .with .ensures, l .0 .asked) (sym (setting-more (l .0 .words) w)) },
+      search needs,
+    )
+
+returns : tie.Need-returns Inv-loop μ-loop
+returns c = search needs
+
+pub arguments-spec : {M : Type 1} → statement M
+arguments-spec =
+    tie.close
+    (tie.spec
+    Inv-loop
+    μ-loop
+    new-requires
+    arg-count-requires
+    loop-holds
+    argument-requires
+    with-requires
+    placed-requires
+    add-i
+    loop-less
+    loop-again
+    returns)

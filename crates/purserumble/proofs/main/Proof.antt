@@ -1,0 +1,40 @@
+-- `purserumble::main` meets its contract. Assumes nothing.
+use mathlib.Core.List.{List}
+use Prim.Native.Nat.{ℕ}
+use Rattle.console.specs.Line.{lineOf}
+use Rattle.console.proofs.Lines.{shown, line-fits}
+use borrow.Author.Needs.{needs}
+use Rattle.purserumble.proofs.main.Statement.{statement}
+use Rattle.purserumble.proofs.main.Tie as tie
+
+abbrev line : tie.After-respond → List ℕ
+line c = lineOf (c .respond .result .saying) (c .respond .result .digest)
+
+respond-requires : tie.Need-respond-requires
+respond-requires c κs = search needs
+
+line-of-requires : tie.Need-line-of-requires
+line-of-requires c κs = search needs
+
+array-share-prefix-bytes : tie.Need-array-share-prefix-bytes
+array-share-prefix-bytes c = rw (c .before .line-of .ensures) (line-fits (line (c .before .before .before)))
+
+slice-aggregate-write-all : tie.Need-slice-aggregate-write-all
+slice-aggregate-write-all c = rw (c .before .before .line-of .ensures, shown (line (c .before .before .before .before)))
+
+write-all-requires : tie.Need-write-all-requires
+write-all-requires c κs = search needs
+
+returns : tie.Need-returns
+returns c = search needs
+
+pub main-spec : {M : Type 1} → statement M
+main-spec =
+    tie.close
+    (tie.spec
+    respond-requires
+    line-of-requires
+    array-share-prefix-bytes
+    slice-aggregate-write-all
+    write-all-requires
+    returns)

@@ -1,0 +1,57 @@
+-- `purserumble::run_file` meets its contract. Assumes nothing.
+use mathlib.Core.Path.{sym}
+use mathlib.Core.Bool.{false}
+use mathlib.Core.List.{[]}
+use lib.Seq.{length-take-le}
+use Rattle.purserumble.specs.Run.{holds, unreadable, answerWith}
+use borrow.Author.Needs.{needs}
+use Rattle.purserumble.proofs.run_file.Statement.{statement}
+use Rattle.purserumble.proofs.run_file.Tie as tie
+
+slice-aggregate-load : tie.Need-slice-aggregate-load
+slice-aggregate-load c = search needs
+
+load-requires : tie.Need-load-requires
+load-requires c κs = search needs
+
+enum-known-n : tie.Need-enum-known-n
+enum-known-n c = search needs
+
+array-share-prefix-bytes : tie.Need-array-share-prefix-bytes
+array-share-prefix-bytes c = rw (c .before .n .given .1) at (c .before .before .before .before .load .ensures)
+
+slice-aggregate-run-checked : tie.Need-slice-aggregate-run-checked
+slice-aggregate-run-checked c =
+    let l = c .before .before .before .before .before .load in
+    sym (length-take-le (c .before .before .n .given .0 .0) (l .last .1 .0) (rw (c .before .before .n .given .1) at (l .ensures)))
+
+run-checked-requires : tie.Need-run-checked-requires
+run-checked-requires c κs = search needs
+
+enum-told : tie.Need-enum-told
+enum-told c = search needs
+
+silent-requires : tie.Need-silent-requires
+silent-requires c κs = search needs
+
+returns : tie.Need-returns
+returns c = record { file = holds _; answers = c .run-checked .ensures }
+
+returns-2 : tie.Need-returns-2
+unfolding answerWith
+returns-2 c = record { file = unreadable; answers = record { pieces = []; failed = false; answered = c .silent .ensures } }
+
+pub run-file-spec : {M : Type 1} → statement M
+run-file-spec =
+    tie.close
+    (tie.spec
+    slice-aggregate-load
+    load-requires
+    enum-known-n
+    array-share-prefix-bytes
+    slice-aggregate-run-checked
+    run-checked-requires
+    enum-told
+    silent-requires
+    returns
+    returns-2)

@@ -1,0 +1,250 @@
+// Reads a message on standard input and writes one line: the verdict and the digest, or the number of what is refused.
+ghost use mathlib.Core.Path.{_≡_};
+ghost use Prim.Native.Nat.{_≤_};
+ghost use lib.ListN.{length};
+ghost use Rattle.purserumble.specs.Run.{sizeOf, silentOf, answerOf, answerTo, holds, answerWith, Asks, Fed, Answers, AnswersFile, Responds};
+use console::Saying;
+use console::Setting;
+use console::Word;
+use console::file_name;
+use console::flags_of;
+use console::line_of;
+use console::word_of;
+use file::file_fault;
+use file::file_words;
+use finish::Finished;
+use finish::Outcome;
+use finish::finish;
+use hasher::Hasher;
+use hasher::update;
+use libc::STDIN_FILENO;
+use libc::STDOUT_FILENO;
+use refusal::Refusal;
+use refusal::is_nothing;
+use stream::Flags;
+
+// Bytes in the longest argument that can name a file: `table=` and a path of 4,095 bytes.
+const MOST_ARGUMENT: usize = 4101;
+
+// One byte more than the longest table file has, so that a longer one is seen.
+const MOST_FILE: usize = 10497;
+
+// What the arguments ask, and which one names the table.
+struct Asked {
+    setting: Setting,
+    place: usize,
+}
+
+// What came of reading a file: so many bytes, or an error.
+enum Loaded {
+    Bytes(usize),
+    Failed,
+}
+
+// What came of reading the message: the updates, and whether a read failed.
+struct Heard {
+    refusal: Refusal,
+    failed: bool,
+    hasher: Hasher,
+}
+
+// What is to be written.
+struct Answer {
+    saying: Saying,
+    digest: [u8; 20],
+}
+
+// Argument i. One that is too long is no word of ours, or names a path that no file can have.
+fn argument(i: usize) -> Word {
+    let mut buf = [0u8; MOST_ARGUMENT];
+    let n = os::arg(i, &mut buf);
+    if os::errno() != 0 {
+        return Word::Other;
+    }
+    word_of(&buf[..n])
+}
+
+// The place of the argument that names the table, with argument i as well.
+fn placed(place: usize, w: Word, i: usize) -> usize {
+    match w {
+        Word::Table => i,
+        Word::Raw => place,
+        Word::Other => place,
+    }
+}
+
+fn arguments() -> Asked
+    ensures { λ r. ⌜ Asks (r .setting) ⌝ }
+{
+    let mut setting = Setting::new();
+    let mut place = 0;
+    for i in 1..os::arg_count() {
+        let w = argument(i);
+        setting = setting.with(w);
+        place = placed(place, w, i);
+    }
+    Asked { setting, place }
+}
+
+// Reads until the file ends or the buffer is full. The end is a read of no bytes, never one that failed.
+fn read_file(fd: i32, bytes: &mut [u8]) -> Loaded
+    ensures { λ r. ⌜ sizeOf r ≤ length (now (bytes .exit)) ⌝ }
+{
+    let mut done = 0;
+    while done < bytes.len() {
+        let got = libc::read(fd, &mut bytes[done..]);
+        if got < 0 {
+            return Loaded::Failed;
+        }
+        let n = io::count(got, &bytes[done..]);
+        if n == 0 {
+            return Loaded::Bytes(done);
+        }
+        done += n;
+    }
+    Loaded::Bytes(done)
+}
+
+// The bytes of the file that argument i names. The file is closed before the message is read.
+fn load(i: usize, bytes: &mut [u8]) -> Loaded
+    ensures { λ r. ⌜ sizeOf r ≤ length (now (bytes .exit)) ⌝ }
+{
+    let mut buf = [0u8; MOST_ARGUMENT];
+    let n = os::arg(i, &mut buf);
+    let fd = os::open_read(file_name(&buf[..n]));
+    if fd < 0 {
+        return Loaded::Failed;
+    }
+    let got = read_file(fd, bytes);
+    libc::close(fd);
+    got
+}
+
+// Takes the message piece by piece to its end, to a refusal or to a read that fails.
+fn hear(start: Hasher, table: &[u32]) -> Heard
+    ensures { λ r. ⌜ Fed start (now (table .entry)) (r .refusal) (r .hasher) ⌝ }
+{
+    let mut buf = io::large_buffer();
+    let mut h = start;
+    loop {
+        let got = libc::read(STDIN_FILENO, &mut buf);
+        if got < 0 {
+            return Heard {
+                refusal: Refusal::Nothing,
+                failed: true,
+                hasher: h,
+            };
+        }
+        let n = io::count(got, &buf);
+        if n == 0 {
+            return Heard {
+                refusal: Refusal::Nothing,
+                failed: false,
+                hasher: h,
+            };
+        }
+        let u = update(h, &buf[..n], table, &table[0..0]);
+        h = u.hasher;
+        let r = u.refusal;
+        if !is_nothing(r) {
+            return Heard {
+                refusal: r,
+                failed: false,
+                hasher: h,
+            };
+        }
+    }
+}
+
+// An answer with no digest.
+fn silent(saying: Saying) -> Answer
+    ensures { λ r. ⌜ r ≡ silentOf saying ⌝ }
+{
+    Answer {
+        saying,
+        digest: [0u8; 20],
+    }
+}
+
+// What a finish says.
+fn answer_of(f: Finished) -> Answer
+    ensures { λ r. ⌜ r ≡ answerOf f ⌝ }
+{
+    let outcome = f.outcome;
+    let digest = f.digest;
+    match outcome {
+        Outcome::Done(v) => Answer {
+            saying: Saying::Verdict(v),
+            digest,
+        },
+        Outcome::Refused(r) => silent(Saying::Refused(r)),
+    }
+}
+
+// The answer to the message, with a table that was checked or with none.
+fn run(flags: Flags, table: &[u32]) -> Answer
+    ensures { λ r. ⌜ Answers (answerTo flags (now (table .entry))) r ⌝ }
+{
+    let heard = hear(Hasher::new(flags), table);
+    let r = heard.refusal;
+    let h = heard.hasher;
+    if !is_nothing(r) {
+        return silent(Saying::Refused(r));
+    }
+    if heard.failed {
+        return silent(Saying::Unread);
+    }
+    answer_of(finish(h, table, &table[0..0]))
+}
+
+// The answer with a table file: the whole table is checked before the message is read.
+fn run_checked(flags: Flags, bytes: &[u8]) -> Answer
+    ensures { λ r. ⌜ Answers (answerWith flags (holds (now (bytes .entry)))) r ⌝ }
+{
+    let r = file_fault(bytes);
+    if !is_nothing(r) {
+        return silent(Saying::Refused(r));
+    }
+    let words = file_words(bytes);
+    let n = bytes.len() / 4;
+    run(flags, &words[..n])
+}
+
+// The answer with the table file that argument i names.
+fn run_file(flags: Flags, i: usize) -> Answer
+    ensures { λ r. ⌜ AnswersFile flags r ⌝ }
+{
+    let mut bytes = [0u8; MOST_FILE];
+    match load(i, &mut bytes) {
+        Loaded::Bytes(n) => run_checked(flags, &bytes[..n]),
+        Loaded::Failed => silent(Saying::Unread),
+    }
+}
+
+// The answer to what the arguments ask.
+fn respond() -> Answer
+    ensures { λ r. ⌜ Responds r ⌝ }
+{
+    let a = arguments();
+    let setting = a.setting;
+    let place = a.place;
+    if setting.bad {
+        return silent(Saying::Unread);
+    }
+    let flags = flags_of(setting);
+    if setting.table {
+        return run_file(flags, place);
+    }
+    let none = [0u32; 1];
+    run(flags, &none[0..0])
+}
+
+fn main() {
+    let a = respond();
+    let saying = a.saying;
+    let digest = a.digest;
+    let line = line_of(saying, digest);
+    let bytes = line.bytes;
+    let n = line.len;
+    io::write_all(STDOUT_FILENO, &bytes[..n]);
+}

@@ -23,8 +23,8 @@ use Rattle.block.proofs.Growth.{schedule-at, word-given}
 use Rattle.block.proofs.Linear.{sibling-schedule, words-words}
 use Rattle.table.specs.Limits.{dmWords, recordWords}
 use Rattle.table.specs.Table.{testWordAt, dmAt}
-use Rattle.table.proofs.Good.{GoodRecord, GoodTable, accepted}
-use Rattle.table.proofs.Rule.{obeys-at}
+use Rattle.table.specs.Good.{GoodRecord, GoodTable}
+use Rattle.table.proofs.Good.{accepted}
 use Rattle.detect.specs.Detect.{siblingEnds, marks, answerOf, oneBlockOf}
 use Rattle.detect.specs.declared.Mode.{Mode}
 use Rattle.detect.proofs.Ended.{found-ended, marked-some, some-marked}
@@ -42,7 +42,7 @@ module _ (h : Regs) (block table : List ℕ) (hw : Words h) (bytes : AllBytes bl
         list-same _ _ 16 (λ t l. ap (λ (x : ℕ). bitXor x (getD dm t 0)) (schedule-at m 80 t (omega arith) ∙ word-given m t l))
         in
         sibling-schedule m dm (list-length (wordAt block) 16) (words-words block bytes) (good .size)
-        (take-words dmWords (drop (recordWords * i + 2) table) (drop-words (recordWords * i + 2) table words)) (obeys-at dm (good .rule))
+        (take-words dmWords (drop (recordWords * i + 2) table) (drop-words (recordWords * i + 2) table words)) (good .rule)
         ∙ ap scheduleOf same
 
     -- the start from which the sibling reaches the block's own state at the test step

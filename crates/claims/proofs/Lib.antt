@@ -13,6 +13,7 @@ pub mod Cut
 pub mod OneShot
 pub mod Verdicts
 pub mod Refusals
+pub mod Formed
 pub mod Kept
 pub mod Close
 pub mod Settled

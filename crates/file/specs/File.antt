@@ -1,7 +1,9 @@
 -- A table in a file: big-endian words, 328 bytes a record. 01, "Vector records".
+use mathlib.Core.Path.{_≡_}
+use mathlib.Core.Logic.{_⊎_}
 use mathlib.Core.Bool.{Bool, _&&_}
 use mathlib.Core.List.{List}
-use Prim.Native.Nat.{ℕ, _*_, _/_, _%_}
+use Prim.Native.Nat.{ℕ, _*_, _/_, _%_, _<_}
 use lib.Dec.{leb, eqb}
 use lib.ListN.{length}
 use Rattle.word.specs.Choice.{pick}
@@ -15,6 +17,18 @@ use Rattle.table.specs.Table.{tableFault}
 -- words in the longest table
 abbrev pub mostWords : ℕ
 mostWords = recordWords * mostRecords
+
+-- bytes in a record: 328
+abbrev pub recordBytes : ℕ
+recordBytes = 4 * recordWords
+
+-- bytes in the longest table file: 10,496
+abbrev pub mostFileBytes : ℕ
+mostFileBytes = recordBytes * mostRecords
+
+-- n bytes can be no table file: none, too many, or no whole number of records
+abbrev pub BadBytes : ℕ → Type 0
+BadBytes n = (n ≡ 0) ⊎ ((mostFileBytes < n) ⊎ (n % recordBytes ≡ 0 → ⊥))
 
 -- the first n words of a file, each big-endian; past its end they are 0
 abbrev pub fileWords : List ℕ → ℕ → List ℕ

@@ -5,9 +5,9 @@ use Prim.Native.Nat.{ℕ, _+_, _-_, _*_, _/_, _%_}
 use lib.Dec.{ltb, leb, eqb}
 use lib.ListN.{length, take, replicate}
 use Rattle.word.specs.Choice.{pick}
-use Rattle.refusal.specs.Refusal.{isNothing}
+use Rattle.refusal.specs.Refusal.{numberOf, placeOf, isNothing}
 use Rattle.refusal.specs.declared.Refusal.{Refusal}
-use Rattle.refusal.specs.declared.Refusal.the-variants.{HasherForm, MaskCount, MessageLength, Size}
+use Rattle.refusal.specs.declared.Refusal.the-variants.{Nothing, HasherForm, MaskCount, MessageLength, Size}
 use Rattle.verdict.specs.Verdict.{verdictOf}
 use Rattle.table.specs.Table.{tableFault}
 use Rattle.stream.specs.Fips.{be64, padded, initial, digestOf}
@@ -58,6 +58,19 @@ finishRefusal h size table masks =
 -- a refusal, or the verdict on a chain
 abbrev pub outcomeOf : Refusal → Chain → Bool → Outcome
 outcomeOf r c mitigate = pick (isNothing r) (Done (verdictOf (c .mark) mitigate)) (Refused r)
+
+-- what an outcome refuses: nothing where there is a verdict
+abbrev pub outcomeRefusal : Outcome → Refusal
+outcomeRefusal (Done v) = Nothing
+outcomeRefusal (Refused r) = r
+
+-- an outcome's number in the table of 01, 0 for a verdict
+abbrev pub outcomeNumber : Outcome → ℕ
+outcomeNumber o = numberOf (outcomeRefusal o)
+
+-- the place, from 0, of the record that decides; 0 for a verdict and for the other numbers
+abbrev pub outcomePlace : Outcome → ℕ
+outcomePlace o = placeOf (outcomeRefusal o)
 
 -- the digest of a chain, or what stands there on a refusal
 abbrev pub digestOr : Refusal → Chain → List ℕ → List ℕ

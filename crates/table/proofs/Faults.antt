@@ -1,10 +1,10 @@
 -- What is wrong with a table: its length, else its first bad record. Assumes nothing.
-use mathlib.Core.Path.{_≡_, sym, ap, _∙_}
-use mathlib.Core.Logic.{_⊎_, ⊎-elim, ⊎-map, _↔_}
-use mathlib.Core.Bool.{true, false, not}
+use mathlib.Core.Path.{_≡_, refl, sym, ap, _∙_}
+use mathlib.Core.Logic.{_⊎_, inl, inr, ⊎-elim, ⊎-map, _↔_}
+use mathlib.Core.Bool.{Bool, true, false, not}
 use mathlib.Core.List.{List}
 use Prim.Native.Nat.{ℕ, zero, suc, _+_, _-_, _*_, _%_, _≤_, _<_}
-use native.Mathlib.Nat.{sub-zero}
+use native.Mathlib.Nat.{sub-zero, eq-or-lt-of-le}
 use native.Mathlib.Numerals.{add-one}
 use native.Mathlib.Omega.{arith}
 use lib.Dec.{ltb, leb}
@@ -15,8 +15,9 @@ use Rattle.refusal.specs.declared.Refusal.{Refusal}
 use Rattle.refusal.specs.declared.Refusal.the-variants.{Nothing, TableLength, MaskNumber, TestStep, DmRule}
 use Rattle.table.specs.Limits.{recordWords, mostRecords}
 use Rattle.table.specs.Table.{recordsIn, recordFault, faultFrom, wholeRecords, tableFault}
+use Rattle.table.specs.Good.{BadLength, GoodBelow}
 use Rattle.word.proofs.Tests.{unless-true, both-true, one-false, of-either}
-use Rattle.table.proofs.Record.{of-each}
+use Rattle.table.proofs.Record.{of-each, is-0, no-fault}
 
 -- the turns of the loop up to record n
 module _ (table : List ℕ) (i n : ℕ) where
@@ -37,10 +38,6 @@ module _ (table : List ℕ) (i n : ℕ) where
   faults-done h =
       let k : n - i ≡ 0 = omega arith in
       rw k
-
--- n words can be no table
-abbrev pub BadLength : ℕ → Type 0
-BadLength n = (n ≡ 0) ⊎ ((recordWords * mostRecords < n) ⊎ (n % recordWords ≡ 0 → ⊥))
 
 pub whole-length : (n : ℕ) → wholeRecords n ≡ true → (0 < n) × (n ≤ recordWords * mostRecords) × (n % recordWords ≡ 0)
 whole-length n w =
@@ -88,18 +85,27 @@ module _ (table : List ℕ) where
     λ b. ap numberOf (length-fault (not-whole (length table) .1 b)),
   )
 
-  pub is-length : (tableFault table ≡ TableLength) ↔ BadLength (length table)
-  is-length = (λ e. is-2 .0 (ap numberOf e), λ b. length-fault (not-whole (length table) .1 b))
+-- there is a first bad record before place k
+abbrev pub BadBelow : List ℕ → ℕ → Type 0
+BadBelow table k = (i : ℕ) × (i < k) × GoodBelow table i × (isNothing (recordFault table i) ≡ false)
 
--- each record before place i is good
-abbrev pub GoodBelow : List ℕ → ℕ → Type 0
-GoodBelow table i = (j : ℕ) → j < i → isNothing (recordFault table j) ≡ true
+module _ (table : List ℕ) where
+  one-more : (k : ℕ) → GoodBelow table k → (b : Bool) → isNothing (recordFault table k) ≡ b → GoodBelow table (suc k) ⊎ BadBelow table (suc k)
+  one-more k g true e =
+      inl (λ j l. ⊎-elim (λ q. rw q (is-0 table k .0 (eqb-true _ 0 e))) (g j) (eq-or-lt-of-le (omega arith)))
+  one-more k g false e = inr (k, omega arith, g, e)
+
+  pub good-or-bad : (k : ℕ) → GoodBelow table k ⊎ BadBelow table k
+  good-or-bad zero = inl (λ j l. absurd (omega arith))
+  good-or-bad (suc k) =
+      ⊎-elim (λ g. one-more k g _ refl) (λ b. inr (b .0, omega arith, b .2, b .3)) (good-or-bad k)
 
 module _ (table : List ℕ) (whole : wholeRecords (length table) ≡ true) where
   passed : (i : ℕ) → i ≤ recordsIn (length table) → GoodBelow table i → tableFault table ≡ faultFrom table i (recordsIn (length table) - i)
   passed zero h g = records-fault table whole
   passed (suc i) h g =
-      passed i (omega arith) (λ j l. g j (omega arith)) ∙ faults-more table i (recordsIn (length table)) h (g i (omega arith)) ∙ rw (add-one i)
+      passed i (omega arith) (λ j l. g j (omega arith))
+      ∙ faults-more table i (recordsIn (length table)) h (ap isNothing (no-fault table i (g i (omega arith)))) ∙ rw (add-one i)
 
   -- the first bad record in table order decides
   pub first-bad : (i : ℕ) → i < recordsIn (length table) → GoodBelow table i → isNothing (recordFault table i) ≡ false

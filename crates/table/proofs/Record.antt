@@ -1,27 +1,25 @@
 -- What is wrong with a record, and exactly when. Assumes nothing.
 use mathlib.Core.Path.{_≡_, refl, sym, ap, _∙_, subst}
-use mathlib.Core.Logic.{_⊎_, ⊎-elim, ⊎-map, _↔_}
+use mathlib.Core.Logic.{⊎-elim, ⊎-map, _↔_}
 use mathlib.Core.Bool.{Bool, true, false, not, _||_, or-true, true≢false}
 use mathlib.Core.List.{List}
-use Prim.Native.Nat.{ℕ, _+_, _-_, _*_, _≤_, _<_}
+use Prim.Native.Nat.{ℕ, _+_, _-_, _*_}
 use native.Mathlib.Omega.{arith}
 use lib.Dec.{ltb, eqb}
-use lib.ListN.{getD, take, drop}
-use lib.Seq.{getD-take, getD-drop}
+use lib.ListN.{take, drop}
 use borrow.Author.Tests.{lt-ltb, le-ltb, eq-eqb, ltb-true, ltb-false, eqb-true}
 use Rattle.refusal.specs.Refusal.{numberOf, placeOf, isNothing}
 use Rattle.refusal.specs.declared.Refusal.{Refusal}
 use Rattle.refusal.specs.declared.Refusal.the-variants.{Nothing, MaskNumber, TestStep, DmRule}
 use Rattle.table.specs.Limits.{dmWords, recordWords, maskBits}
 use Rattle.table.specs.Table.{maskNumberAt, testWordAt, dmAt, obeys, recordFault}
+use Rattle.table.specs.Good.{Known, BadMask, BadStep, BadRule, AllGood}
 use Rattle.word.proofs.Tests.{unless-true, one-true, of-either}
+use Rattle.table.proofs.Rule.{rule-true, rule-false}
 
--- x is one of the two test steps, as a test and as a fact
+-- the test whether x is one of the two test steps
 abbrev pub known : ℕ → Bool
 known x = eqb x 58 || eqb x 65
-
-abbrev pub Known : ℕ → Type 0
-Known x = (x ≡ 58) ⊎ (x ≡ 65)
 
 pub known-true : (x : ℕ) → (known x ≡ true) ↔ Known x
 known-true x = (
@@ -34,34 +32,23 @@ known-false x =
     (λ h k. true≢false (sym (known-true x .1 k) ∙ h), λ h. unless-true (known x) (λ e. h (known-true x .0 e)))
 
 module _ (table : List ℕ) (i : ℕ) where
-  -- what can be wrong with record i, each where nothing before it is; and that nothing is wrong
-  abbrev pub BadMask : Type 0
-  BadMask = maskBits ≤ maskNumberAt table i
-
-  abbrev pub BadStep : Type 0
-  BadStep = (maskNumberAt table i < maskBits) × (Known (testWordAt table i) → ⊥)
-
-  abbrev pub BadRule : Type 0
-  BadRule = (maskNumberAt table i < maskBits) × Known (testWordAt table i) × (obeys (dmAt table i) ≡ false)
-
-  abbrev pub AllGood : Type 0
-  AllGood = (maskNumberAt table i < maskBits) × Known (testWordAt table i) × (obeys (dmAt table i) ≡ true)
-
-  pub mask-fault : BadMask → recordFault table i ≡ MaskNumber i
+  pub mask-fault : BadMask table i → recordFault table i ≡ MaskNumber i
   unfolding recordFault
   mask-fault m = rw (le-ltb (maskNumberAt table i) maskBits m)
 
-  pub step-fault : BadStep → recordFault table i ≡ TestStep i
+  pub step-fault : BadStep table i → recordFault table i ≡ TestStep i
   unfolding recordFault
   step-fault (m, s) = rw (lt-ltb (maskNumberAt table i) maskBits m, known-false (testWordAt table i) .1 s)
 
-  pub rule-fault : BadRule → recordFault table i ≡ DmRule i
+  pub rule-fault : BadRule table i → recordFault table i ≡ DmRule i
   unfolding recordFault
-  rule-fault (m, s, r) = rw (lt-ltb (maskNumberAt table i) maskBits m, known-true (testWordAt table i) .1 s, r)
+  rule-fault (m, s, r) =
+      rw (lt-ltb (maskNumberAt table i) maskBits m, known-true (testWordAt table i) .1 s, rule-false (dmAt table i) .1 r)
 
-  pub no-fault : AllGood → recordFault table i ≡ Nothing
+  pub no-fault : AllGood table i → recordFault table i ≡ Nothing
   unfolding recordFault
-  no-fault (m, s, r) = rw (lt-ltb (maskNumberAt table i) maskBits m, known-true (testWordAt table i) .1 s, r)
+  no-fault (m, s, r) =
+      rw (lt-ltb (maskNumberAt table i) maskBits m, known-true (testWordAt table i) .1 s, rule-true (dmAt table i) .1 r)
 
   -- what holds of each fault that a record can have holds of its fault
   pub of-each : (P : Refusal → Type 0) → P (MaskNumber i) → P (TestStep i) → P (DmRule i) → P Nothing → P (recordFault table i)
@@ -81,9 +68,6 @@ module _ (table : List ℕ) (i : ℕ) where
   dm-part =
       let e : recordWords * i + recordWords - (recordWords * i + 2) ≡ dmWords = omega arith in
       rw e
-
-  pub dm-word : (t : ℕ) → t < dmWords → getD (dmAt table i) t 0 ≡ getD table (recordWords * i + 2 + t) 0
-  dm-word t h = rw (getD-take, getD-drop)
 
 -- why the fault of record i has its number
 data Why (table : List ℕ) (i : ℕ) : ℕ → Type 0 where
@@ -115,10 +99,10 @@ module _ (table : List ℕ) (i : ℕ) where
       let h : BadStep table i = (ltb-true _ _ em, known-false _ .0 es) in
       rw (step-fault table i h) (step h)
   why-by true true false em es er =
-      let h : BadRule table i = (ltb-true _ _ em, known-true _ .0 es, er) in
+      let h : BadRule table i = (ltb-true _ _ em, known-true _ .0 es, rule-false _ .0 er) in
       rw (rule-fault table i h) (rule h)
   why-by true true true em es er =
-      let h : AllGood table i = (ltb-true _ _ em, known-true _ .0 es, er) in
+      let h : AllGood table i = (ltb-true _ _ em, known-true _ .0 es, rule-true _ .0 er) in
       rw (no-fault table i h) (none h)
 
   why : (n : ℕ) → numberOf (recordFault table i) ≡ n → Why table i n

@@ -1,7 +1,7 @@
 -- The test of the rule, one word at a time, and what it says of each word. Assumes nothing.
 use mathlib.Core.Path.{_≡_, refl}
-use mathlib.Core.Logic.{⊎-elim}
-use mathlib.Core.Bool.{true, false}
+use mathlib.Core.Logic.{_↔_, ⊎-elim}
+use mathlib.Core.Bool.{true, false, true≢false}
 use mathlib.Core.List.{List}
 use Prim.Native.Nat.{ℕ, zero, suc, _+_, _-_, _≤_, _<_}
 use native.Mathlib.Nat.{eq-or-lt-of-le}
@@ -9,11 +9,12 @@ use native.Mathlib.Numerals.{add-one}
 use native.Mathlib.Omega.{arith}
 use lib.Dec.{eqb}
 use lib.ListN.{getD}
-use borrow.Author.Tests.{eq-eqb, ne-eqb, eqb-true}
+use borrow.Author.Tests.{eq-eqb, ne-eqb, eqb-true, eqb-false}
 use Rattle.word.specs.Rule.{ruleAt}
 use Rattle.table.specs.Limits.{dmWords}
 use Rattle.table.specs.Table.{obeysFrom, obeys}
-use Rattle.word.proofs.Tests.{both-true}
+use Rattle.table.specs.Good.{Obeys, Breaks}
+use Rattle.word.proofs.Tests.{both-true, one-false, unless-true}
 
 -- the turns of the loop up to place n
 module _ (dm : List ℕ) (t n : ℕ) where
@@ -36,12 +37,12 @@ module _ (dm : List ℕ) (t n : ℕ) where
       rw k
 
 -- the test is passed exactly when each word is what the rule gives
-obeys-from : (dm : List ℕ) (n k t : ℕ) → obeysFrom dm k n ≡ true → k ≤ t → t < k + n → getD dm t 0 ≡ ruleAt dm t
+obeys-from : (dm : List ℕ) (n k : ℕ) → obeysFrom dm k n ≡ true → (t : ℕ) → k ≤ t → t < k + n → getD dm t 0 ≡ ruleAt dm t
 unfolding obeysFrom
-obeys-from dm zero k t o h l = absurd (omega arith)
-obeys-from dm (suc n) k t o h l =
+obeys-from dm zero k o t h l = absurd (omega arith)
+obeys-from dm (suc n) k o t h l =
     let b = both-true (eqb (getD dm k 0) (ruleAt dm k)) _ o in
-    ⊎-elim (λ e. rw (← e) (eqb-true _ _ (b .0))) (λ g. obeys-from dm n (suc k) t (b .1) g (omega arith)) (eq-or-lt-of-le h)
+    ⊎-elim (λ e. rw (← e) (eqb-true _ _ (b .0))) (λ g. obeys-from dm n (suc k) (b .1) t g (omega arith)) (eq-or-lt-of-le h)
 
 from-all : (dm : List ℕ) (n k : ℕ) → ((t : ℕ) → k ≤ t → t < k + n → getD dm t 0 ≡ ruleAt dm t) → obeysFrom dm k n ≡ true
 unfolding obeysFrom
@@ -50,8 +51,20 @@ from-all dm (suc n) k h =
     rw (eq-eqb (getD dm k 0) (ruleAt dm k) (h k (omega arith) (omega arith)))
     (from-all dm n (suc k) (λ t g l. h t (omega arith) (omega arith)))
 
-pub obeys-at : (dm : List ℕ) → obeys dm ≡ true → (t : ℕ) → 16 ≤ t → t < dmWords → getD dm t 0 ≡ ruleAt dm t
-obeys-at dm o t h l = obeys-from dm (dmWords - 16) 16 t o h l
+breaks-from : (dm : List ℕ) (n k : ℕ) → obeysFrom dm k n ≡ false → (t : ℕ) × (k ≤ t) × (t < k + n) × (getD dm t 0 ≡ ruleAt dm t → ⊥)
+unfolding obeysFrom
+breaks-from dm zero k o = absurd (true≢false o)
+breaks-from dm (suc n) k o =
+    ⊎-elim (λ e. (k, omega arith, omega arith, eqb-false (getD dm k 0) (ruleAt dm k) e))
+    (λ e. let b = breaks-from dm n (suc k) e in (b .0, omega arith, omega arith, b .3))
+    (one-false (eqb (getD dm k 0) (ruleAt dm k)) _ o)
 
-pub obeys-if : (dm : List ℕ) → ((t : ℕ) → 16 ≤ t → t < dmWords → getD dm t 0 ≡ ruleAt dm t) → obeys dm ≡ true
-obeys-if dm h = from-all dm (dmWords - 16) 16 h
+module _ (dm : List ℕ) where
+  pub rule-true : (obeys dm ≡ true) ↔ Obeys dm
+  rule-true = (obeys-from dm (dmWords - 16) 16, from-all dm (dmWords - 16) 16)
+
+  pub rule-false : (obeys dm ≡ false) ↔ Breaks dm
+  rule-false = (
+    breaks-from dm (dmWords - 16) 16,
+    λ b. unless-true (obeys dm) (λ o. b .3 (rule-true .0 o (b .0) (b .1) (b .2))),
+  )

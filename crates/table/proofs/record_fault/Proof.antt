@@ -3,7 +3,9 @@ use mathlib.Core.Path.{_≡_, sym, ap, _∙_}
 use borrow.Author.Needs.{needs}
 use borrow.Author.Tests.{not-true, not-false}
 use Rattle.table.specs.Table.{testWordAt, dmAt, obeys}
-use Rattle.table.proofs.Record.{Known, known-true, known-false, mask-fault, step-fault, rule-fault, no-fault, dm-part}
+use Rattle.table.specs.Good.{Known}
+use Rattle.table.proofs.Rule.{rule-true, rule-false}
+use Rattle.table.proofs.Record.{known-true, known-false, mask-fault, step-fault, rule-fault, no-fault, dm-part}
 use Rattle.table.proofs.record_fault.Statement.{statement}
 use Rattle.table.proofs.record_fault.Tie as tie
 
@@ -77,12 +79,12 @@ rule-seen c =
 returns-3 : tie.Need-returns-3
 returns-3 c =
     let a = start (c .before) .args in
-    sym (rule-fault (a .table .now) (a .i) (search needs, step-known (c .before), rule-seen (c .before) ∙ not-true _ (c .if3 .taken)))
+    sym (rule-fault (a .table .now) (a .i) (search needs, step-known (c .before), rule-false _ .0 (rule-seen (c .before) ∙ not-true _ (c .if3 .taken))))
 
 returns-4 : tie.Need-returns-4
 returns-4 c =
     let a = start (c .before) .args in
-    sym (no-fault (a .table .now) (a .i) (search needs, step-known (c .before), rule-seen (c .before) ∙ not-false _ (c .if3 .left)))
+    sym (no-fault (a .table .now) (a .i) (search needs, step-known (c .before), rule-true _ .0 (rule-seen (c .before) ∙ not-false _ (c .if3 .left))))
 
 pub record-fault-spec : {M : Type 1} → statement M
 record-fault-spec =

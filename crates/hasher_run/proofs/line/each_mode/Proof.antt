@@ -1,0 +1,46 @@
+-- `hasher_run::line::each_mode` is safe and ends. Assumes nothing.
+use Prim.Native.Nat.{_-_, _≤_}
+use borrow.Author.Needs.{needs}
+use Rattle.hasher_run.proofs.line.each_mode.Statement.{statement}
+use Rattle.hasher_run.proofs.line.each_mode.Tie as tie
+
+abbrev Inv-loop : tie.InvT-loop
+Inv-loop m table masks bits₀ bits = bits ≤ 16
+
+abbrev μ-loop : tie.MeasureT-loop
+μ-loop m table masks bits₀ bits = 16 - bits
+
+loop-holds : tie.Need-loop-holds Inv-loop μ-loop
+loop-holds c = search needs
+
+flags-of-requires : tie.Need-flags-of-requires Inv-loop μ-loop
+flags-of-requires c κs = search needs
+
+whole-requires : tie.Need-whole-requires Inv-loop μ-loop
+whole-requires c κs = search needs
+
+add-bits : tie.Need-add-bits Inv-loop μ-loop
+add-bits c = search needs
+
+loop-less : tie.Need-loop-less Inv-loop μ-loop
+loop-less c = search needs
+
+loop-again : tie.Need-loop-again Inv-loop μ-loop
+loop-again c = search needs
+
+returns : tie.Need-returns Inv-loop μ-loop
+returns c = search needs
+
+pub each-mode-spec : {M : Type 1} → statement M
+each-mode-spec =
+    tie.close
+    (tie.spec
+    Inv-loop
+    μ-loop
+    loop-holds
+    flags-of-requires
+    whole-requires
+    add-bits
+    loop-less
+    loop-again
+    returns)

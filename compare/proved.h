@@ -1,10 +1,13 @@
 /* The calls as a C caller sees them: what the static library of the proved code offers, and second/second.c too.
  *
- * A slice is a pointer and then its length. Slices of a fixed length are lent at that length.
- * Every call returns the refusal number, 0 for none. `answer` is always written whole.
+ * A slice is a pointer and then its length. Slices of a fixed length are lent at that length; the parameter after the
+ * pointer has its name. Where one has another length, the proved code returns 255 and changes nothing (second.c does
+ * not look at them).
+ * Every other call returns the refusal number, 0 for none, and writes `answer` whole.
  *   words    the five chaining words, changed in place
  *   pending  the 64 pending bytes, changed in place
- *   state    fill, blocks, mark (0 or 1), flags (1 detect, 2 mitigate, 4 masks lent, 8 reduced), changed in place
+ *   state    fill, blocks, mark (0 or 1), flags (1 detect, 2 mitigate, 4 masks lent, 8 reduced), changed in place;
+ *            other bits of the mark and the flags are not looked at, and are written back as 0
  *   answer   first what the call says below, 0 on refusal; then the place of the refused record, 0 for other numbers
  */
 #ifndef PROVED_H
@@ -49,7 +52,7 @@ uint32_t purserumble_table_fault(const uint32_t *table, size_t table_len, uint64
 uint32_t purserumble_lookup(const uint8_t *sheet, size_t sheet_len, const uint8_t *code, size_t code_len,
     uint64_t *part, size_t two);
 
-/* answer (2): 0 match, 1 differs, 2 absent; then 0. */
+/* answer (2): 0 match, 1 differs, 2 absent; then 0. The verdict is 0 ok, 1 mitigated, else collision: it changes nothing. */
 uint32_t purserumble_compare(const uint8_t *sheet, size_t sheet_len, const uint8_t *code, size_t code_len,
     uint32_t verdict, const uint8_t *digest, size_t twenty, uint64_t *answer, size_t two);
 #endif

@@ -1,0 +1,58 @@
+-- `export::purserumble_lookup` meets its contract. Assumes nothing.
+use borrow.Author.Tests.{eq-eqb, ne-eqb}
+use Rattle.export.specs.Calls.{lookupCall}
+use borrow.Author.Needs.{needs}
+use Rattle.export.proofs.purserumble_lookup.Statement.{statement}
+use Rattle.export.proofs.purserumble_lookup.Tie as tie
+
+returns : tie.Need-returns
+unfolding lookupCall
+returns c = rw (ne-eqb _ _ (c .if1 .taken))
+
+lookup-requires : tie.Need-lookup-requires
+lookup-requires c κs = search needs
+
+part-from-requires : tie.Need-part-from-requires
+part-from-requires c κs = search needs
+
+put-two-requires : tie.Need-put-two-requires
+put-two-requires c κs = search needs
+
+lookup-refusal-requires : tie.Need-lookup-refusal-requires
+lookup-refusal-requires c κs = search needs
+
+number-requires : tie.Need-number-requires
+number-requires c κs = search needs
+
+same-length : tie.Need-same-length
+same-length c = search needs
+
+returns-2 : tie.Need-returns-2
+unfolding lookupCall
+returns-2 c =
+    let s1 = c .before in
+    let s2 = s1 .before .before .before in
+    let s3 = s2 .before in
+    let s4 = s3 .before .before in
+    let s5 = s4 .before in
+    rw (
+      eq-eqb _ _ (s5 .if1 .left),
+      c .number .ensures,
+      s1 .lookup-refusal .ensures,
+      s2 .put-two .ensures,
+      s3 .part-from .ensures,
+      s4 .lookup .ensures .0,
+    )
+
+pub purserumble-lookup-spec : {M : Type 1} → statement M
+purserumble-lookup-spec =
+    tie.close
+    (tie.spec
+    returns
+    lookup-requires
+    part-from-requires
+    put-two-requires
+    lookup-refusal-requires
+    number-requires
+    same-length
+    returns-2)

@@ -1,0 +1,143 @@
+-- What each exported call gives back, and what it leaves in the memory lent to it.
+use mathlib.Core.Bool.{Bool, _&&_}
+use mathlib.Core.List.{List, [], _∷_, _++_}
+use Prim.Native.Nat.{ℕ}
+use lib.Dec.{eqb}
+use lib.ListN.{length}
+use Rattle.word.specs.Choice.{pick}
+use Rattle.refusal.specs.Refusal.{numberOf, placeOf}
+use Rattle.refusal.specs.declared.Refusal.{Refusal}
+use Rattle.refusal.specs.declared.Refusal.the-variants.{Nothing}
+use Rattle.verdict.specs.declared.Verdict.{Verdict}
+use Rattle.table.specs.Table.{tableFault}
+use Rattle.detect.specs.Detect.{oneBlockOf}
+use Rattle.detect.specs.declared.Mode.{Mode}
+use Rattle.detect.specs.declared.OneBlock.{OneBlock}
+use Rattle.hasher.specs.Hasher.{updated, resetOf}
+use Rattle.hasher.specs.declared.Hasher.{Hasher}
+use Rattle.hasher.specs.declared.Updated.{Updated}
+use Rattle.finish.specs.Finish.{finished, closed, writtenOut, digested}
+use Rattle.finish.specs.declared.Outcome.{Outcome}
+use Rattle.finish.specs.declared.Outcome.the-variants.{Done, Refused}
+use Rattle.finish.specs.declared.Finished.{Finished}
+use Rattle.finish.specs.declared.Closed.{Closed}
+use Rattle.finish.specs.declared.Digested.{Digested}
+use Rattle.sheet.specs.Sheet.{lookupRefusal, partFrom, partOf}
+use Rattle.sheet.specs.Compare.{comparedNumber, comparedOf}
+use Rattle.sheet.specs.declared.Comparison.{Comparison}
+use Rattle.sheet.specs.declared.Comparison.the-variants.{Match, Differs, Absent}
+use Rattle.sheet.specs.declared.Compared.{Compared}
+use Rattle.sheet.specs.declared.Compared.the-variants.{Said}
+use Rattle.export.specs.Lent.{bitOf, hasherIn, slicesOf, hasherFits, verdictNumber}
+
+-- the number that a call gives back, and the contents of the slices that it may write, in the order of its parameters
+pub record Left : Type 0 where
+  pub number : ℕ
+  pub slices : List (List ℕ)
+
+abbrev pub left : ℕ → List (List ℕ) → Left
+left n s = record { number = n; slices = s }
+
+-- the number where a slice has another length than the fixed one
+abbrev pub wrongLength : ℕ
+wrongLength = 255
+
+-- what a call leaves, if the slices have their lengths; else it leaves them as they were
+abbrev pub guarded : Bool → Left → List (List ℕ) → Left
+guarded fits done before = pick fits done (left wrongLength before)
+
+-- the two numbers of an answer: what the call says, and the place of the refused record
+abbrev pub answerWith : ℕ → Refusal → List ℕ
+answerWith says r = says ∷ placeOf r ∷ []
+
+-- what was refused, if anything was
+abbrev pub refusalIn : Outcome → Refusal
+refusalIn (Done v) = Nothing
+refusalIn (Refused r) = r
+
+-- the verdict's number, 0 on a refusal
+abbrev pub verdictIn : Outcome → ℕ
+verdictIn (Done v) = verdictNumber v
+verdictIn (Refused r) = 0
+
+-- the two numbers of an outcome's answer
+abbrev pub outcomeAnswer : Outcome → List ℕ
+outcomeAnswer o = answerWith (verdictIn o) (refusalIn o)
+
+-- the number of a comparison's answer, 0 on a refusal
+abbrev pub comparisonIn : Compared → ℕ
+comparisonIn (Said Match) = 0
+comparisonIn (Said Differs) = 1
+comparisonIn (Said Absent) = 2
+comparisonIn (Compared.Refused r) = 0
+
+-- what one block leaves: the words; mark, place, tried and the refused record's place
+abbrev pub blockLeft : OneBlock → Left
+blockLeft o =
+    left (numberOf (o .refusal))
+    (o .words ∷ (bitOf (o .found .mark) ∷ o .found .place ∷ o .found .tried ∷ placeOf (o .refusal) ∷ []) ∷ [])
+
+unfoldable pub blockCall : List ℕ → List ℕ → List ℕ → ℕ → Mode → List ℕ → Left
+blockCall words block table mask mode answer =
+    guarded (eqb (length words) 5 && eqb (length answer) 4) (blockLeft (oneBlockOf words block table mask mode)) (words ∷ answer ∷ [])
+
+-- what an update or a reset leaves: the hasher, and the refused record's place
+abbrev pub updatedLeft : Updated → Left
+updatedLeft u = left (numberOf (u .refusal)) (slicesOf (u .hasher) ++ answerWith 0 (u .refusal) ∷ [])
+
+unfoldable pub updateCall : List ℕ → List ℕ → List ℕ → List ℕ → List ℕ → List ℕ → List ℕ → Left
+updateCall words pending state bytes table masks answer =
+    guarded (hasherFits (length words) (length pending) (length state) && eqb (length answer) 2)
+    (updatedLeft (updated (hasherIn words pending state) bytes table masks))
+    (words ∷ pending ∷ state ∷ answer ∷ [])
+
+unfoldable pub resetCall : List ℕ → List ℕ → List ℕ → List ℕ → Left
+resetCall words pending state answer =
+    guarded (hasherFits (length words) (length pending) (length state) && eqb (length answer) 2)
+    (updatedLeft (resetOf (hasherIn words pending state)))
+    (words ∷ pending ∷ state ∷ answer ∷ [])
+
+-- what a digest's call leaves: the digest, and the outcome
+abbrev pub digestLeft : Outcome → List ℕ → Left
+digestLeft o digest = left (numberOf (refusalIn o)) (digest ∷ outcomeAnswer o ∷ [])
+
+unfoldable pub finishCall : List ℕ → List ℕ → List ℕ → List ℕ → List ℕ → List ℕ → List ℕ → Left
+finishCall words pending state digest table masks answer =
+    let f = finished (hasherIn words pending state) table masks in
+    guarded (hasherFits (length words) (length pending) (length state) && (eqb (length digest) 20 && eqb (length answer) 2))
+    (digestLeft (f .outcome) (f .digest))
+    (digest ∷ answer ∷ [])
+
+unfoldable pub oneShotCall : List ℕ → List ℕ → List ℕ → List ℕ → List ℕ → Left
+oneShotCall bytes digest table masks answer =
+    let d = digested bytes table masks in
+    guarded (eqb (length digest) 20 && eqb (length answer) 2) (digestLeft (d .outcome) (d .digest)) (digest ∷ answer ∷ [])
+
+-- what a finish-and-reset leaves: the hasher, the output and the outcome
+unfoldable pub closeCall : List ℕ → List ℕ → List ℕ → List ℕ → List ℕ → List ℕ → List ℕ → Left
+closeCall words pending state out table masks answer =
+    let h = hasherIn words pending state in
+    let c = closed h (length out) table masks in
+    guarded (hasherFits (length words) (length pending) (length state) && eqb (length answer) 2)
+    (left (numberOf (refusalIn (c .outcome))) (slicesOf (c .hasher) ++ writtenOut h out table masks ∷ outcomeAnswer (c .outcome) ∷ []))
+    (words ∷ pending ∷ state ∷ out ∷ answer ∷ [])
+
+-- what a table check leaves
+unfoldable pub tableCall : List ℕ → List ℕ → Left
+tableCall table answer =
+    guarded (eqb (length answer) 2) (left (numberOf (tableFault table)) (answerWith 0 (tableFault table) ∷ [])) (answer ∷ [])
+
+-- what a lookup leaves: where the part begins, and its length
+unfoldable pub lookupCall : List ℕ → List ℕ → List ℕ → Left
+lookupCall sheet code part =
+    guarded (eqb (length part) 2)
+    (left (numberOf (lookupRefusal sheet code)) ((partFrom sheet code ∷ length (partOf sheet code) ∷ []) ∷ []))
+    (part ∷ [])
+
+-- what a comparison leaves
+abbrev pub comparedLeft : Compared → Left
+comparedLeft c = left (comparedNumber c) ((comparisonIn c ∷ 0 ∷ []) ∷ [])
+
+unfoldable pub compareCall : List ℕ → List ℕ → Verdict → List ℕ → List ℕ → Left
+compareCall sheet code verdict digest answer =
+    guarded (eqb (length digest) 20 && eqb (length answer) 2) (comparedLeft (comparedOf sheet code verdict digest)) (answer ∷ [])

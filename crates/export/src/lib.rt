@@ -1,0 +1,509 @@
+// The calls for programs in C and Rust, as compare/proved.h declares them. A slice passes as a pointer and a length.
+// Where a slice has another length than the fixed one, a call returns 255 and changes nothing: no other number is
+// above 16, and a caller that breaks the agreement on lengths is told so instead of being trapped.
+ghost use mathlib.Core.Path.{_≡_};
+ghost use mathlib.Core.List.{[], _∷_};
+ghost use Prim.Native.Nat.{_<_};
+ghost use lib.ListN.{length};
+ghost use Rattle.stream.specs.Flags.{isLent};
+ghost use Rattle.sheet.specs.Sheet.{recordFor, partFrom};
+ghost use Rattle.sheet.specs.Compare.{comparedNumber};
+ghost use Rattle.export.specs.Lent.{bitOf, hasWorth, flagsIn, flagsNumber, hasherIn, stateOf, hasherFits, verdictNumber, verdictFor};
+ghost use Rattle.export.specs.Calls.{left, refusalIn, verdictIn, comparisonIn, blockCall, updateCall, resetCall, finishCall, oneShotCall, closeCall, tableCall, lookupCall, compareCall};
+use detect::Mode;
+use detect::one_block;
+use finish::Outcome;
+use finish::finish;
+use finish::finish_and_reset;
+use finish::one_shot;
+use hasher::Hasher;
+use hasher::reset;
+use hasher::update;
+use refusal::Refusal;
+use refusal::is_nothing;
+use refusal::number;
+use refusal::place;
+use sheet::Compared;
+use sheet::Comparison;
+use sheet::compare;
+use sheet::lookup;
+use sheet::lookup_refusal;
+use sheet::same_bytes;
+use stream::Flags;
+use stream::Masks;
+use table::table_fault;
+use verdict::Verdict;
+
+pub const WRONG_LENGTH: u32 = 255;
+
+// Copies between lent slices and arrays, one for each width.
+
+fn put_bytes(out: &mut [u8], s: &[u8])
+    requires { ⌜ length (now out) ≡ length (now s) ⌝ }
+    ensures { λ r. ⌜ now (out .exit) ≡ now (s .entry) ⌝ }
+{
+    for i in 0..s.len() {
+        out[i] = s[i];
+    }
+}
+
+fn put_words(out: &mut [u32], s: &[u32])
+    requires { ⌜ length (now out) ≡ length (now s) ⌝ }
+    ensures { λ r. ⌜ now (out .exit) ≡ now (s .entry) ⌝ }
+{
+    for i in 0..s.len() {
+        out[i] = s[i];
+    }
+}
+
+// Two numbers into an answer.
+fn put_two(out: &mut [u64], a: u64, b: u64)
+    requires { ⌜ length (now out) ≡ 2 ⌝ }
+    ensures { λ r. ⌜ now (out .exit) ≡ (a ∷ b ∷ []) ⌝ }
+{
+    out[0] = a;
+    out[1] = b;
+}
+
+// Four numbers into an answer or a state.
+fn put_four(out: &mut [u64], a: u64, b: u64, c: u64, d: u64)
+    requires { ⌜ length (now out) ≡ 4 ⌝ }
+    ensures { λ r. ⌜ now (out .exit) ≡ (a ∷ b ∷ c ∷ d ∷ []) ⌝ }
+{
+    out[0] = a;
+    out[1] = b;
+    out[2] = c;
+    out[3] = d;
+}
+
+fn words_in(s: &[u32]) -> [u32; 5]
+    requires { ⌜ length (now s) ≡ 5 ⌝ }
+    ensures { λ r. ⌜ r ≡ now (s .entry) ⌝ }
+{
+    let mut w = [0u32; 5];
+    put_words(&mut w, s);
+    w
+}
+
+fn pending_in(s: &[u8]) -> [u8; 64]
+    requires { ⌜ length (now s) ≡ 64 ⌝ }
+    ensures { λ r. ⌜ r ≡ now (s .entry) ⌝ }
+{
+    let mut p = [0u8; 64];
+    put_bytes(&mut p, s);
+    p
+}
+
+fn digest_in(s: &[u8]) -> [u8; 20]
+    requires { ⌜ length (now s) ≡ 20 ⌝ }
+    ensures { λ r. ⌜ r ≡ now (s .entry) ⌝ }
+{
+    let mut d = [0u8; 20];
+    put_bytes(&mut d, s);
+    d
+}
+
+fn bit_of(b: bool) -> u64
+    ensures { λ r. ⌜ r ≡ bitOf b ⌝ }
+{
+    if b {
+        return 1;
+    }
+    0
+}
+
+// Whether x has the bit that is worth so much.
+fn has_worth(x: u64, worth: u64) -> bool
+    requires { ⌜ 0 < worth ⌝ }
+    ensures { λ r. ⌜ r ≡ hasWorth x worth ⌝ }
+{
+    x / worth % 2 == 1
+}
+
+fn flags_in(x: u64) -> Flags
+    ensures { λ r. ⌜ r ≡ flagsIn x ⌝ }
+{
+    let plain = Flags {
+        detect: has_worth(x, 1),
+        mitigate: has_worth(x, 2),
+        masks: Masks::All,
+        reduced: has_worth(x, 8),
+    };
+    plain.use_ubc(has_worth(x, 4))
+}
+
+fn masks_bit(masks: Masks) -> u64
+    ensures { λ r. ⌜ r ≡ bitOf (isLent masks) ⌝ }
+{
+    match masks {
+        Masks::All => 0,
+        Masks::Lent => 1,
+    }
+}
+
+fn flags_number(f: Flags) -> u64
+    ensures { λ r. ⌜ r ≡ flagsNumber f ⌝ }
+{
+    let masks = f.masks;
+    bit_of(f.detect) + 2 * bit_of(f.mitigate) + 4 * masks_bit(masks) + 8 * bit_of(f.reduced)
+}
+
+// Whether the slices of a hasher have their fixed lengths.
+fn hasher_fits(words: usize, pending: usize, state: usize) -> bool
+    ensures { λ r. ⌜ r ≡ hasherFits words pending state ⌝ }
+{
+    if words != 5 {
+        return false;
+    }
+    if pending != 64 {
+        return false;
+    }
+    state == 4
+}
+
+// The hasher that lies in three lent slices.
+fn hasher_in(words: &[u32], pending: &[u8], state: &[u64]) -> Hasher
+    requires { ⌜ (length (now words) ≡ 5) × (length (now pending) ≡ 64) × (length (now state) ≡ 4) ⌝ }
+    ensures { λ r. ⌜ r ≡ hasherIn (now (words .entry)) (now (pending .entry)) (now (state .entry)) ⌝ }
+{
+    let w = words_in(words);
+    let p = pending_in(pending);
+    let flags = flags_in(state[3]);
+    Hasher {
+        words: w,
+        pending: p,
+        fill: state[0] as usize,
+        blocks: state[1],
+        flags,
+        mark: has_worth(state[2], 1),
+    }
+}
+
+// A hasher laid into three lent slices.
+fn put_hasher(words: &mut [u32], pending: &mut [u8], state: &mut [u64], h: Hasher)
+    requires { ⌜ (length (now words) ≡ 5) × (length (now pending) ≡ 64) × (length (now state) ≡ 4) ⌝ }
+    ensures { λ r. ⌜ (now (words .exit) ≡ h .words) × (now (pending .exit) ≡ h .pending) × (now (state .exit) ≡ stateOf h) ⌝ }
+{
+    let w = h.words;
+    let p = h.pending;
+    let flags = h.flags;
+    let fill = h.fill;
+    put_words(words, &w);
+    put_bytes(pending, &p);
+    put_four(
+        state,
+        fill as u64,
+        h.blocks,
+        bit_of(h.mark),
+        flags_number(flags),
+    );
+}
+
+fn verdict_number(v: Verdict) -> u64
+    ensures { λ r. ⌜ r ≡ verdictNumber v ⌝ }
+{
+    match v {
+        Verdict::Ok => 0,
+        Verdict::Mitigated => 1,
+        Verdict::Collision => 2,
+    }
+}
+
+fn verdict_for(x: u32) -> Verdict
+    ensures { λ r. ⌜ r ≡ verdictFor x ⌝ }
+{
+    if x == 0 {
+        return Verdict::Ok;
+    }
+    if x == 1 {
+        return Verdict::Mitigated;
+    }
+    Verdict::Collision
+}
+
+fn refusal_in(o: Outcome) -> Refusal
+    ensures { λ r. ⌜ r ≡ refusalIn o ⌝ }
+{
+    match o {
+        Outcome::Done(_) => Refusal::Nothing,
+        Outcome::Refused(r) => r,
+    }
+}
+
+fn verdict_in(o: Outcome) -> u64
+    ensures { λ r. ⌜ r ≡ verdictIn o ⌝ }
+{
+    match o {
+        Outcome::Done(v) => verdict_number(v),
+        Outcome::Refused(_) => 0,
+    }
+}
+
+fn comparison_in(c: Compared) -> u64
+    ensures { λ r. ⌜ r ≡ comparisonIn c ⌝ }
+{
+    match c {
+        Compared::Said(a) => match a {
+            Comparison::Match => 0,
+            Comparison::Differs => 1,
+            Comparison::Absent => 2,
+        },
+        Compared::Refused(_) => 0,
+    }
+}
+
+fn compared_number(c: Compared) -> u32
+    ensures { λ r. ⌜ r ≡ comparedNumber c ⌝ }
+{
+    match c {
+        Compared::Said(_) => 0,
+        Compared::Refused(r) => number(r),
+    }
+}
+
+#[no_mangle]
+pub extern "C" fn purserumble_one_block(
+    words: &mut [u32],
+    block: &[u8],
+    table: &[u32],
+    mask: u32,
+    mitigate: bool,
+    reduced: bool,
+    answer: &mut [u64],
+) -> u32
+    ensures { λ r. ⌜ left r (now (words .exit) ∷ now (answer .exit) ∷ []) ≡ blockCall (now (words .entry)) (now (block .entry)) (now (table .entry)) mask (record { mitigate = mitigate; reduced = reduced }) (now (answer .entry)) ⌝ }
+{
+    if words.len() != 5 {
+        return WRONG_LENGTH;
+    }
+    if answer.len() != 4 {
+        return WRONG_LENGTH;
+    }
+    let o = one_block(
+        words_in(words),
+        block,
+        table,
+        mask,
+        Mode { mitigate, reduced },
+    );
+    let w = o.words;
+    let r = o.refusal;
+    let found = o.found;
+    put_words(words, &w);
+    put_four(
+        answer,
+        bit_of(found.mark),
+        found.place as u64,
+        found.tried as u64,
+        place(r) as u64,
+    );
+    number(r)
+}
+
+#[no_mangle]
+pub extern "C" fn purserumble_update(
+    words: &mut [u32],
+    pending: &mut [u8],
+    state: &mut [u64],
+    bytes: &[u8],
+    table: &[u32],
+    masks: &[u32],
+    answer: &mut [u64],
+) -> u32
+    ensures { λ r. ⌜ left r (now (words .exit) ∷ now (pending .exit) ∷ now (state .exit) ∷ now (answer .exit) ∷ []) ≡ updateCall (now (words .entry)) (now (pending .entry)) (now (state .entry)) (now (bytes .entry)) (now (table .entry)) (now (masks .entry)) (now (answer .entry)) ⌝ }
+{
+    if !hasher_fits(words.len(), pending.len(), state.len()) {
+        return WRONG_LENGTH;
+    }
+    if answer.len() != 2 {
+        return WRONG_LENGTH;
+    }
+    let u = update(hasher_in(words, pending, state), bytes, table, masks);
+    let r = u.refusal;
+    let h = u.hasher;
+    put_hasher(words, pending, state, h);
+    put_two(answer, 0, place(r) as u64);
+    number(r)
+}
+
+#[no_mangle]
+pub extern "C" fn purserumble_reset(
+    words: &mut [u32],
+    pending: &mut [u8],
+    state: &mut [u64],
+    answer: &mut [u64],
+) -> u32
+    ensures { λ r. ⌜ left r (now (words .exit) ∷ now (pending .exit) ∷ now (state .exit) ∷ now (answer .exit) ∷ []) ≡ resetCall (now (words .entry)) (now (pending .entry)) (now (state .entry)) (now (answer .entry)) ⌝ }
+{
+    if !hasher_fits(words.len(), pending.len(), state.len()) {
+        return WRONG_LENGTH;
+    }
+    if answer.len() != 2 {
+        return WRONG_LENGTH;
+    }
+    let u = reset(hasher_in(words, pending, state));
+    let r = u.refusal;
+    let h = u.hasher;
+    put_hasher(words, pending, state, h);
+    put_two(answer, 0, place(r) as u64);
+    number(r)
+}
+
+// The hasher is lent for reading only: a finish hands it back as given.
+#[no_mangle]
+pub extern "C" fn purserumble_finish(
+    words: &[u32],
+    pending: &[u8],
+    state: &[u64],
+    digest: &mut [u8],
+    table: &[u32],
+    masks: &[u32],
+    answer: &mut [u64],
+) -> u32
+    ensures { λ r. ⌜ left r (now (digest .exit) ∷ now (answer .exit) ∷ []) ≡ finishCall (now (words .entry)) (now (pending .entry)) (now (state .entry)) (now (digest .entry)) (now (table .entry)) (now (masks .entry)) (now (answer .entry)) ⌝ }
+{
+    if !hasher_fits(words.len(), pending.len(), state.len()) {
+        return WRONG_LENGTH;
+    }
+    if digest.len() != 20 {
+        return WRONG_LENGTH;
+    }
+    if answer.len() != 2 {
+        return WRONG_LENGTH;
+    }
+    let f = finish(hasher_in(words, pending, state), table, masks);
+    let d = f.digest;
+    let o = f.outcome;
+    put_bytes(digest, &d);
+    let r = refusal_in(o);
+    put_two(answer, verdict_in(o), place(r) as u64);
+    number(r)
+}
+
+#[no_mangle]
+pub extern "C" fn purserumble_finish_and_reset(
+    words: &mut [u32],
+    pending: &mut [u8],
+    state: &mut [u64],
+    out: &mut [u8],
+    table: &[u32],
+    masks: &[u32],
+    answer: &mut [u64],
+) -> u32
+    ensures { λ r. ⌜ left r (now (words .exit) ∷ now (pending .exit) ∷ now (state .exit) ∷ now (out .exit) ∷ now (answer .exit) ∷ []) ≡ closeCall (now (words .entry)) (now (pending .entry)) (now (state .entry)) (now (out .entry)) (now (table .entry)) (now (masks .entry)) (now (answer .entry)) ⌝ }
+{
+    if !hasher_fits(words.len(), pending.len(), state.len()) {
+        return WRONG_LENGTH;
+    }
+    if answer.len() != 2 {
+        return WRONG_LENGTH;
+    }
+    let c = finish_and_reset(hasher_in(words, pending, state), out, table, masks);
+    let h = c.hasher;
+    let o = c.outcome;
+    put_hasher(words, pending, state, h);
+    let r = refusal_in(o);
+    put_two(answer, verdict_in(o), place(r) as u64);
+    number(r)
+}
+
+#[no_mangle]
+pub extern "C" fn purserumble_one_shot(
+    bytes: &[u8],
+    digest: &mut [u8],
+    table: &[u32],
+    masks: &[u32],
+    answer: &mut [u64],
+) -> u32
+    ensures { λ r. ⌜ left r (now (digest .exit) ∷ now (answer .exit) ∷ []) ≡ oneShotCall (now (bytes .entry)) (now (digest .entry)) (now (table .entry)) (now (masks .entry)) (now (answer .entry)) ⌝ }
+{
+    if digest.len() != 20 {
+        return WRONG_LENGTH;
+    }
+    if answer.len() != 2 {
+        return WRONG_LENGTH;
+    }
+    let s = one_shot(bytes, table, masks);
+    let d = s.digest;
+    let o = s.outcome;
+    put_bytes(digest, &d);
+    let r = refusal_in(o);
+    put_two(answer, verdict_in(o), place(r) as u64);
+    number(r)
+}
+
+#[no_mangle]
+pub extern "C" fn purserumble_table_fault(table: &[u32], answer: &mut [u64]) -> u32
+    ensures { λ r. ⌜ left r (now (answer .exit) ∷ []) ≡ tableCall (now (table .entry)) (now (answer .entry)) ⌝ }
+{
+    if answer.len() != 2 {
+        return WRONG_LENGTH;
+    }
+    let r = table_fault(table);
+    put_two(answer, 0, place(r) as u64);
+    number(r)
+}
+
+// The place of the first record with the barcode. An exported function can hand back no part of a slice, so where
+// the part lies is counted here.
+fn record_for(sheet: &[u8], code: &[u8]) -> usize
+    ensures { λ r. ⌜ r ≡ recordFor (now (sheet .entry)) (now (code .entry)) ⌝ }
+{
+    let n = sheet.len() / 32;
+    for k in 0..n {
+        let at = 32 * k;
+        let end = at + 12;
+        if same_bytes(&sheet[at..end], code) {
+            return k;
+        }
+    }
+    n
+}
+
+// Where the part that a lookup hands back begins.
+fn part_from(sheet: &[u8], code: &[u8]) -> usize
+    ensures { λ r. ⌜ r ≡ partFrom (now (sheet .entry)) (now (code .entry)) ⌝ }
+{
+    if !is_nothing(lookup_refusal(sheet, code)) {
+        return sheet.len();
+    }
+    let k = record_for(sheet, code);
+    if k < sheet.len() / 32 {
+        return 32 * k + 12;
+    }
+    sheet.len()
+}
+
+#[no_mangle]
+pub extern "C" fn purserumble_lookup(sheet: &[u8], code: &[u8], part: &mut [u64]) -> u32
+    ensures { λ r. ⌜ left r (now (part .exit) ∷ []) ≡ lookupCall (now (sheet .entry)) (now (code .entry)) (now (part .entry)) ⌝ }
+{
+    if part.len() != 2 {
+        return WRONG_LENGTH;
+    }
+    let found = lookup(sheet, code);
+    let n = found.len();
+    put_two(part, part_from(sheet, code) as u64, n as u64);
+    number(lookup_refusal(sheet, code))
+}
+
+#[no_mangle]
+pub extern "C" fn purserumble_compare(
+    sheet: &[u8],
+    code: &[u8],
+    verdict: u32,
+    digest: &[u8],
+    answer: &mut [u64],
+) -> u32
+    ensures { λ r. ⌜ left r (now (answer .exit) ∷ []) ≡ compareCall (now (sheet .entry)) (now (code .entry)) (verdictFor verdict) (now (digest .entry)) (now (answer .entry)) ⌝ }
+{
+    if digest.len() != 20 {
+        return WRONG_LENGTH;
+    }
+    if answer.len() != 2 {
+        return WRONG_LENGTH;
+    }
+    let c = compare(sheet, code, verdict_for(verdict), digest_in(digest));
+    put_two(answer, comparison_in(c), 0);
+    compared_number(c)
+}

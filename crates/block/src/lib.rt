@@ -70,7 +70,8 @@ fn run(from: usize, to: usize, start: Regs, w: &mut [u32; 80]) -> Regs
     s
 }
 
-// Steps 0 to 39, which both compressions begin with.
+// Steps 0 to 39 with the schedule kept. Only `compression_states` calls it: with a second caller it would not be
+// inlined, and every block would pay for clearing the array and for passing it through memory.
 fn first_forty(h: Regs, block: &[u8], w: &mut [u32; 80]) -> Regs
     requires { ⌜ length (now block) ≡ 64 ⌝ }
     ensures { λ r. ⌜ Stage (wordsOf (now (block .entry))) h 40 (now (w .exit)) r ⌝ }
@@ -88,7 +89,11 @@ pub fn compression_plain(h: Regs, block: &[u8]) -> Regs
     ensures { λ r. ⌜ r ≡ compressOf h (now (block .entry)) ⌝ }
 {
     let mut w = [0u32; 80];
-    let s40 = first_forty(h, block, &mut w);
+    let s8 = begin(0, 8, h, &mut w, block);
+    let s16 = begin(8, 16, s8, &mut w, block);
+    let s20 = run(16, 20, s16, &mut w);
+    let s30 = run(20, 30, s20, &mut w);
+    let s40 = run(30, 40, s30, &mut w);
     let s50 = run(40, 50, s40, &mut w);
     let s60 = run(50, 60, s50, &mut w);
     let s70 = run(60, 70, s60, &mut w);

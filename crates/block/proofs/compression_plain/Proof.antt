@@ -1,12 +1,24 @@
--- `block::compression_plain` meets its contract. Assumes nothing.
-use borrow.Author.Needs.{needs}
+-- `block::compression_plain` meets its contract: each run brings the compression on. Assumes nothing.
+use mathlib.Core.Path.{refl}
+use lib.ListN.{replicate}
 use Rattle.block.specs.Schedule.{wordsOf}
 use Rattle.block.specs.Compress.{compressOf, overSchedule}
+use Rattle.block.proofs.Stages.{stage-start}
+use borrow.Author.Needs.{needs}
 use Rattle.block.proofs.compression_plain.Statement.{statement}
 use Rattle.block.proofs.compression_plain.Tie as tie
 
-first-forty-requires : tie.Need-first-forty-requires
-first-forty-requires c κs = search needs
+slice-aggregate-begin : tie.Need-slice-aggregate-begin
+slice-aggregate-begin c = search needs
+
+begin-requires : tie.Need-begin-requires
+begin-requires c κs = search needs
+
+slice-aggregate-begin-2 : tie.Need-slice-aggregate-begin-2
+slice-aggregate-begin-2 c = search needs
+
+begin-requires-2 : tie.Need-begin-requires-2
+begin-requires-2 c κs = search needs
 
 run-requires : tie.Need-run-requires
 run-requires c κs = search needs
@@ -20,30 +32,52 @@ run-requires-3 c κs = search needs
 run-requires-4 : tie.Need-run-requires-4
 run-requires-4 c κs = search needs
 
+run-requires-5 : tie.Need-run-requires-5
+run-requires-5 c κs = search needs
+
+run-requires-6 : tie.Need-run-requires-6
+run-requires-6 c κs = search needs
+
+run-requires-7 : tie.Need-run-requires-7
+run-requires-7 c κs = search needs
+
 add-regs-requires : tie.Need-add-regs-requires
 add-regs-requires c κs = search needs
 
 returns : tie.Need-returns
 unfolding compressOf overSchedule
 returns c =
-    let r3 = c .before .before .before in
+    let r6 = c .before .before .before in
+    let r5 = r6 .before .before in
+    let r4 = r5 .before .before in
+    let r3 = r4 .before .before in
     let r2 = r3 .before .before in
     let r1 = r2 .before .before in
-    let f = r1 .before .before in
-    let h = f .before .before .before .args .h in
-    let m = wordsOf (f .before .before .before .args .block .now) in
-    let g60 = r2 .run2 .ensures m h (r1 .run .ensures m h (f .first-forty .ensures)) in
-    let g80 = c .before .run4 .ensures m h (r3 .run3 .ensures m h g60) in
+    let b2 = r1 .before .before .before in
+    let b1 = b2 .before .before .before in
+    let a = b1 .before .before .before .args in
+    let h = a .h in
+    let m = wordsOf (a .block .now) in
+    let g16 = b2 .begin2 .ensures h (b1 .begin .ensures h (stage-start m h (replicate 80 0) refl)) in
+    let g40 = r3 .run3 .ensures m h (r2 .run2 .ensures m h (r1 .run .ensures m h g16)) in
+    let g60 = r5 .run5 .ensures m h (r4 .run4 .ensures m h g40) in
+    let g80 = c .before .run7 .ensures m h (r6 .run6 .ensures m h g60) in
     rw (c .add-regs .ensures, g80 .regs)
 
 pub compression-plain-spec : {M : Type 1} → statement M
 compression-plain-spec =
     tie.close
     (tie.spec
-    first-forty-requires
+    slice-aggregate-begin
+    begin-requires
+    slice-aggregate-begin-2
+    begin-requires-2
     run-requires
     run-requires-2
     run-requires-3
     run-requires-4
+    run-requires-5
+    run-requires-6
+    run-requires-7
     add-regs-requires
     returns)

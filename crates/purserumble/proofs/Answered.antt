@@ -17,20 +17,13 @@ use Rattle.file.proofs.Short.{short}
 use Rattle.console.specs.Arguments.{flagsOf}
 use Rattle.console.specs.declared.Setting.{Setting}
 use Rattle.console.specs.declared.Saying.the-variants.{Refused, Unread}
-use Rattle.purserumble.specs.Run.{silentOf, answerOf, answerTo, Contents, answerWith, respondTo, Asks, Fed}
+use Rattle.purserumble.specs.Run.{silentOf, concluded, answerTo, Contents, answerWith, respondTo, Asks, Fed}
 
-module _ {f : Flags} {table : List ℕ} {r : Refusal} {h : Hasher} (fed : Fed (freshOf f) table r h) where
-  pub fed-refused : isNothing r ≡ false → silentOf (Refused r) ≡ answerTo f table (fed .pieces) false
-  unfolding answerTo
-  fed-refused e = rw (fed .updates, e)
-
-  pub fed-failed : isNothing r ≡ true → silentOf Unread ≡ answerTo f table (fed .pieces) true
-  unfolding answerTo
-  fed-failed e = rw (fed .updates, e)
-
-  pub fed-whole : isNothing r ≡ true → answerOf (finished h table []) ≡ answerTo f table (fed .pieces) false
-  unfolding answerTo
-  fed-whole e = rw (fed .updates, e)
+-- the answer to what was heard is that to the pieces
+pub fed-answers : {f : Flags} {table : List ℕ} {r : Refusal} {h : Hasher} (fed : Fed (freshOf f) table r h) (failed : Bool)
+    → concluded (record { refusal = r; failed = failed; hasher = h }) table ≡ answerTo f table (fed .pieces) failed
+unfolding answerTo
+fed-answers fed failed = rw (fed .updates)
 
 -- a file with nothing wrong has no more words than the longest table
 whole : (b : Bool) (r : Refusal) → isNothing (pick b r TableLength) ≡ true → b ≡ true

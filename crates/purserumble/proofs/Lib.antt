@@ -1,2 +1,3 @@
 pub mod Feeding
 pub mod Answered
+pub mod Lines

@@ -1,16 +1,16 @@
 -- What the program answers to the pieces that it reads. No contract can say which bytes a read gives, so a run is said of some pieces.
 use mathlib.Core.Path.{_≡_}
-use mathlib.Core.Bool.{Bool}
+use mathlib.Core.Bool.{Bool, true, false}
 use mathlib.Core.List.{List, [], map}
 use Prim.Native.Nat.{ℕ}
 use lib.ListN.{replicate}
+use lib.IntN.{ℤ, pos, negsuc}
 use Rattle.word.specs.Choice.{pick}
 use Rattle.refusal.specs.Refusal.{isNothing}
 use Rattle.refusal.specs.declared.Refusal.{Refusal}
+use Rattle.refusal.specs.declared.Refusal.the-variants.{Nothing}
 use Rattle.stream.specs.declared.Flags.{Flags}
-use Rattle.hasher.specs.Hasher.{freshOf}
 use Rattle.hasher.specs.declared.Hasher.{Hasher}
-use Rattle.hasher.specs.declared.Updated.{Updated}
 use Rattle.file.specs.File.{tableOf, fileFault}
 use Rattle.finish.specs.Finish.{digestSize, finished}
 use Rattle.finish.specs.declared.Finished.{Finished}
@@ -23,8 +23,22 @@ use Rattle.console.specs.declared.Saying.{Saying}
 use Rattle.console.specs.declared.Saying.the-variants.{Verdict as SayVerdict, Refused as SayRefused, Unread}
 use Rattle.claims.specs.Pieces.{Piece, piecewise, taking}
 use Rattle.purserumble.specs.declared.Answer.{Answer}
+use Rattle.purserumble.specs.declared.Heard.{Heard}
 use Rattle.purserumble.specs.declared.Loaded.{Loaded}
 use Rattle.purserumble.specs.declared.Loaded.the-variants.{Bytes, Failed}
+
+-- whether a call of C's failed, by its answer
+abbrev pub below0 : ℤ → Bool
+below0 (pos k) = false
+below0 (negsuc k) = true
+
+-- what has been read of a file when no more bytes come
+abbrev pub fileEnd : ℤ → ℕ → Loaded
+fileEnd got done = pick (below0 got) Failed (Bytes done)
+
+-- what was heard of the message when no more bytes come
+abbrev pub messageEnd : ℤ → Hasher → Heard
+messageEnd got h = record { refusal = Nothing; failed = below0 got; hasher = h }
 
 -- how many bytes were read from a file
 abbrev pub sizeOf : Loaded → ℕ
@@ -48,11 +62,16 @@ answerOf f = outcomeSays (f .outcome) (f .digest)
 abbrev pub calls : List (List ℕ) → List Piece
 calls bs = map (λ b. record { bytes = b; masks = [] }) bs
 
--- the answer to a message in pieces: the number of the first update refused, else 16 if a read failed, else what the finish says
+-- the answer to what was heard: the number of the update refused, else 16 if a read failed, else what the finish says
+unfoldable pub concluded : Heard → List ℕ → Answer
+concluded h table =
+    pick (isNothing (h .refusal)) (pick (h .failed) (silentOf Unread) (answerOf (finished (h .hasher) table []))) (silentOf (SayRefused (h .refusal)))
+
+-- the answer to a message in pieces: to what its updates give, with whether a read failed after the last
 unfoldable pub answerTo : Flags → List ℕ → List (List ℕ) → Bool → Answer
 answerTo f table bs failed =
     let u = taking f table (calls bs) in
-    pick (isNothing (u .refusal)) (pick failed (silentOf Unread) (answerOf (finished (u .hasher) table []))) (silentOf (SayRefused (u .refusal)))
+    concluded (record { refusal = u .refusal; failed = failed; hasher = u .hasher }) table
 
 -- what reading a table file gave
 pub data Contents : Type 0 where

@@ -2,7 +2,7 @@
 ghost use mathlib.Core.Path.{_≡_};
 ghost use Prim.Native.Nat.{_≤_};
 ghost use lib.ListN.{length};
-ghost use Rattle.purserumble.specs.Run.{sizeOf, silentOf, answerOf, answerTo, holds, answerWith, Asks, Fed, Answers, AnswersFile, Responds};
+ghost use Rattle.purserumble.specs.Run.{below0, fileEnd, sizeOf, messageEnd, silentOf, answerOf, concluded, answerTo, holds, answerWith, Asks, Fed, Answers, AnswersFile, Responds};
 use console::Saying;
 use console::Setting;
 use console::Word;
@@ -86,19 +86,33 @@ fn arguments() -> Asked
     Asked { setting, place }
 }
 
-// Reads until the file ends or the buffer is full. The end is a read of no bytes, never one that failed.
+// Whether a call of C's failed.
+fn is_error(got: isize) -> bool
+    ensures { λ r. ⌜ r ≡ below0 got ⌝ }
+{
+    got < 0
+}
+
+// What has been read of a file when no more bytes come: an error is no end.
+fn file_end(got: isize, done: usize) -> Loaded
+    ensures { λ r. ⌜ r ≡ fileEnd got done ⌝ }
+{
+    if is_error(got) {
+        return Loaded::Failed;
+    }
+    Loaded::Bytes(done)
+}
+
+// Reads until the file ends or the buffer is full.
 fn read_file(fd: i32, bytes: &mut [u8]) -> Loaded
     ensures { λ r. ⌜ sizeOf r ≤ length (now (bytes .exit)) ⌝ }
 {
     let mut done = 0;
     while done < bytes.len() {
         let got = libc::read(fd, &mut bytes[done..]);
-        if got < 0 {
-            return Loaded::Failed;
-        }
         let n = io::count(got, &bytes[done..]);
         if n == 0 {
-            return Loaded::Bytes(done);
+            return file_end(got, done);
         }
         done += n;
     }
@@ -120,6 +134,17 @@ fn load(i: usize, bytes: &mut [u8]) -> Loaded
     got
 }
 
+// What was heard when no more bytes come: an error is no end.
+fn message_end(got: isize, h: Hasher) -> Heard
+    ensures { λ r. ⌜ r ≡ messageEnd got h ⌝ }
+{
+    Heard {
+        refusal: Refusal::Nothing,
+        failed: is_error(got),
+        hasher: h,
+    }
+}
+
 // Takes the message piece by piece to its end, to a refusal or to a read that fails.
 fn hear(start: Hasher, table: &[u32]) -> Heard
     ensures { λ r. ⌜ Fed start (now (table .entry)) (r .refusal) (r .hasher) ⌝ }
@@ -128,20 +153,9 @@ fn hear(start: Hasher, table: &[u32]) -> Heard
     let mut h = start;
     loop {
         let got = libc::read(STDIN_FILENO, &mut buf);
-        if got < 0 {
-            return Heard {
-                refusal: Refusal::Nothing,
-                failed: true,
-                hasher: h,
-            };
-        }
         let n = io::count(got, &buf);
         if n == 0 {
-            return Heard {
-                refusal: Refusal::Nothing,
-                failed: false,
-                hasher: h,
-            };
+            return message_end(got, h);
         }
         let u = update(h, &buf[..n], table, &table[0..0]);
         h = u.hasher;
@@ -181,11 +195,10 @@ fn answer_of(f: Finished) -> Answer
     }
 }
 
-// The answer to the message, with a table that was checked or with none.
-fn run(flags: Flags, table: &[u32]) -> Answer
-    ensures { λ r. ⌜ Answers (answerTo flags (now (table .entry))) r ⌝ }
+// The answer to what was heard.
+fn conclude(heard: Heard, table: &[u32]) -> Answer
+    ensures { λ r. ⌜ r ≡ concluded heard (now (table .entry)) ⌝ }
 {
-    let heard = hear(Hasher::new(flags), table);
     let r = heard.refusal;
     let h = heard.hasher;
     if !is_nothing(r) {
@@ -195,6 +208,13 @@ fn run(flags: Flags, table: &[u32]) -> Answer
         return silent(Saying::Unread);
     }
     answer_of(finish(h, table, &table[0..0]))
+}
+
+// The answer to the message, with a table that was checked or with none.
+fn run(flags: Flags, table: &[u32]) -> Answer
+    ensures { λ r. ⌜ Answers (answerTo flags (now (table .entry))) r ⌝ }
+{
+    conclude(hear(Hasher::new(flags), table), table)
 }
 
 // The answer with a table file: the whole table is checked before the message is read.

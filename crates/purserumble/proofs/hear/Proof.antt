@@ -35,17 +35,17 @@ slice-aggregate-read c = search needs
 read-requires : tie.Need-read-requires Inv-loop μ-loop
 read-requires c κs = search needs
 
-returns : tie.Need-returns Inv-loop μ-loop
-returns c = c .before .before .before .before .loop .inv .2
-
 slice-aggregate-count : tie.Need-slice-aggregate-count Inv-loop μ-loop
 slice-aggregate-count c = search needs
 
 count-requires : tie.Need-count-requires Inv-loop μ-loop
 count-requires c κs = search needs
 
-returns-2 : tie.Need-returns-2 Inv-loop μ-loop
-returns-2 c = c .before .before .before .before .before .before .before .loop .inv .2
+message-end-requires : tie.Need-message-end-requires Inv-loop μ-loop
+message-end-requires c κs = search needs
+
+returns : tie.Need-returns Inv-loop μ-loop
+returns c = rw (c .message-end .ensures) (c .before .before .before .before .before .before .before .loop .inv .2)
 
 array-share-prefix-buf : tie.Need-array-share-prefix-buf Inv-loop μ-loop
 array-share-prefix-buf c = search needs
@@ -68,17 +68,17 @@ update-requires c κs = search needs
 is-nothing-requires : tie.Need-is-nothing-requires Inv-loop μ-loop
 is-nothing-requires c κs = search needs
 
-returns-3 : tie.Need-returns-3 Inv-loop μ-loop
-returns-3 c =
+returns-2 : tie.Need-returns-2 Inv-loop μ-loop
+returns-2 c =
     let u = c .before .before .before in
     let n = u .before .before .before .before in
-    let r = n .before .before .before .before in
+    let r = n .before .before .before in
     rw (u .update .ensures) (fed-more (r .before .before .loop .inv .2) (take (n .count .result) (r .read .last .1 .0)))
 
 -- the piece of this turn, and that its update is not refused
-module _ (c : tie.Else3 Inv-loop μ-loop) where
+module _ (c : tie.Else2 Inv-loop μ-loop) where
   abbrev before : tie.After-read Inv-loop μ-loop
-  before = c .before .before .before .before .before .before .before .before .before .before .before
+  before = c .before .before .before .before .before .before .before .before .before .before
 
   abbrev piece : List ℕ
   piece = take (c .before .before .before .before .before .before .before .count .result) (before .read .last .1 .0)
@@ -91,14 +91,14 @@ module _ (c : tie.Else3 Inv-loop μ-loop) where
       nothing-is _
       (sym (ap (λ (v : Updated). isNothing (v .refusal)) (c .before .before .before .update .ensures))
       ∙ sym (c .before .is-nothing .ensures)
-      ∙ not-false _ (c .if3 .left))
+      ∙ not-false _ (c .if2 .left))
 
 loop-less : tie.Need-loop-less Inv-loop μ-loop
 loop-less c =
     let l = before c .before .before .loop in
     let n = c .before .before .before .before .before .before in
     rw (c .before .before .before .update .ensures)
-    (less-left (l .h) (piece c) (given c) (l .inv .1) (accepted c) (omega (arith, n .if2 .left, n .before .count .ensures .0)))
+    (less-left (l .h) (piece c) (given c) (l .inv .1) (accepted c) (omega (arith, n .if1 .left, n .before .count .ensures .0)))
 
 loop-again : tie.Need-loop-again Inv-loop μ-loop
 loop-again c =
@@ -119,10 +119,10 @@ hear-spec =
     loop-holds
     slice-aggregate-read
     read-requires
-    returns
     slice-aggregate-count
     count-requires
-    returns-2
+    message-end-requires
+    returns
     array-share-prefix-buf
     slice-aggregate-update
     sub-update
@@ -130,6 +130,6 @@ hear-spec =
     part-update-end
     update-requires
     is-nothing-requires
-    returns-3
+    returns-2
     loop-less
     loop-again)

@@ -1,9 +1,12 @@
 -- `purserumble::read_file` meets its contract. The measure is the room that is left. Assumes nothing.
 use mathlib.Core.Path.{_≡_}
-use Prim.Native.Nat.{_-_, _≤_}
-use native.Mathlib.Omega.{arith}
+use Prim.Native.Nat.{ℕ, _-_, _≤_, zero-le}
 use borrow.Author.Needs.{needs}
 use lib.ListN.{length}
+use lib.IntN.{ℤ, pos, negsuc}
+use mir.Syntax.{w64}
+use mir.Val.{toZ, ofZ}
+use Rattle.purserumble.specs.Run.{fileEnd, sizeOf}
 use Rattle.purserumble.proofs.read_file.Statement.{statement}
 use Rattle.purserumble.proofs.read_file.Tie as tie
 
@@ -12,6 +15,10 @@ Inv-loop fd bytes₀ done₀ bytes done = (done ≤ length bytes) × (length byt
 
 abbrev μ-loop : tie.MeasureT-loop
 μ-loop fd bytes₀ done₀ bytes done = length bytes₀ - done
+
+end-within : (got : ℤ) (done n : ℕ) → done ≤ n → sizeOf (fileEnd got done) ≤ n
+end-within (pos k) done n h = h
+end-within (negsuc k) done n h = zero-le
 
 loop-holds : tie.Need-loop-holds Inv-loop μ-loop
 loop-holds c = search needs
@@ -28,12 +35,6 @@ part-read-end c = search needs
 read-requires : tie.Need-read-requires Inv-loop μ-loop
 read-requires c κs = search needs
 
-same-length : tie.Need-same-length Inv-loop μ-loop
-same-length c = search needs
-
-returns : tie.Need-returns Inv-loop μ-loop
-returns c = search needs
-
 sub-count : tie.Need-sub-count Inv-loop μ-loop
 sub-count c = search needs
 
@@ -46,11 +47,16 @@ part-count-end c = search needs
 count-requires : tie.Need-count-requires Inv-loop μ-loop
 count-requires c κs = search needs
 
-same-length-2 : tie.Need-same-length-2 Inv-loop μ-loop
-same-length-2 c = search needs
+file-end-requires : tie.Need-file-end-requires Inv-loop μ-loop
+file-end-requires c κs = search needs
 
-returns-2 : tie.Need-returns-2 Inv-loop μ-loop
-returns-2 c = search needs
+same-length : tie.Need-same-length Inv-loop μ-loop
+same-length c = search needs
+
+returns : tie.Need-returns Inv-loop μ-loop
+returns c =
+    let r = c .before .before .before .before .before .before .before in
+    rw (c .file-end .ensures) (end-within (toZ w64 (ofZ w64 (r .read .result))) (r .before .before .before .loop .done) _ (search needs))
 
 add-done : tie.Need-add-done Inv-loop μ-loop
 add-done c = search needs
@@ -61,11 +67,11 @@ loop-less c = search needs
 loop-again : tie.Need-loop-again Inv-loop μ-loop
 loop-again c = search needs
 
-same-length-3 : tie.Need-same-length-3 Inv-loop μ-loop
-same-length-3 c = search needs
+same-length-2 : tie.Need-same-length-2 Inv-loop μ-loop
+same-length-2 c = search needs
 
-returns-3 : tie.Need-returns-3 Inv-loop μ-loop
-returns-3 c = search needs
+returns-2 : tie.Need-returns-2 Inv-loop μ-loop
+returns-2 c = search needs
 
 pub read-file-spec : {M : Type 1} → statement M
 read-file-spec =
@@ -78,16 +84,15 @@ read-file-spec =
     part-read-start
     part-read-end
     read-requires
-    same-length
-    returns
     sub-count
     part-count-start
     part-count-end
     count-requires
-    same-length-2
-    returns-2
+    file-end-requires
+    same-length
+    returns
     add-done
     loop-less
     loop-again
-    same-length-3
-    returns-3)
+    same-length-2
+    returns-2)

@@ -16,7 +16,7 @@ use Rattle.word.specs.Lists.{listOf, xorWords, AllWords}
 use Rattle.word.specs.Rule.{ruleAt}
 use Rattle.word.proofs.Xor.{rule-lt, rule-xor}
 use Rattle.block.specs.Schedule.{wordAt, wordsOf, scheduled, scheduleOf}
-use Rattle.block.specs.Sibling.{siblingOf}
+use Rattle.block.specs.Sibling.{siblingSchedule}
 use Rattle.block.proofs.Fill.{list-at}
 use Rattle.block.proofs.Growth.{word, schedule-list, word-given, word-ruled, schedule-ruled}
 
@@ -85,5 +85,5 @@ module _ (m dm : List ℕ) (hm : AllWords m) (hd : AllWords dm) (obeys : (t : �
 -- where the difference words obey the rule, the sibling has the schedule of a block
 pub sibling-schedule : (m dm : List ℕ) → length m ≡ 16 → AllWords m → length dm ≡ 80 → AllWords dm
     → ((t : ℕ) → 16 ≤ t → t < 80 → getD dm t 0 ≡ ruleAt dm t)
-    → siblingOf (scheduleOf m) dm ≡ scheduleOf (xorWords 16 (scheduleOf m) dm)
+    → siblingSchedule (scheduleOf m) dm ≡ scheduleOf (xorWords 16 (scheduleOf m) dm)
 sibling-schedule m dm _ hm _ hd obeys = so-far m dm hm hd obeys 80 (omega arith)

@@ -8,8 +8,8 @@ use Rattle.block.specs.Compress.{overSchedule}
 use Rattle.block.specs.declared.Ends.{Ends}
 
 -- the sibling's schedule: the block's, `xor` the vector's difference words
-abbrev pub siblingOf : List ℕ → List ℕ → List ℕ
-siblingOf w dm = xorWords 80 w dm
+abbrev pub siblingSchedule : List ℕ → List ℕ → List ℕ
+siblingSchedule w dm = xorWords 80 w dm
 
 -- the start from which n steps over the schedule w lead to the state s, and the chaining words from that start
 unfoldable pub recompressed : List ℕ → ℕ → Regs → Ends

@@ -5,7 +5,7 @@ ghost use Prim.Native.Nat.{ℕ, _<_, _≤_};
 ghost use lib.ListN.{length};
 ghost use Rattle.block.specs.Schedule.{wordAt, wordsOf, scheduleOf};
 ghost use Rattle.block.specs.Compress.{overSchedule, compressOf, statesOf};
-ghost use Rattle.block.specs.Sibling.{siblingOf, recompressed};
+ghost use Rattle.block.specs.Sibling.{siblingSchedule, recompressed};
 ghost use Rattle.block.specs.Stage.{Stage, Onward};
 use step::Regs;
 use step::add_regs;
@@ -133,7 +133,7 @@ pub fn compression_w(h: Regs, w: &[u32; 80]) -> Regs
 // The sibling's schedule, for a vector's difference words dm.
 pub fn sibling(w: &[u32; 80], dm: &[u32]) -> [u32; 80]
     requires { ⌜ length (now dm) ≡ 80 ⌝ }
-    ensures { λ r. ⌜ r ≡ siblingOf (now (w .entry)) (now (dm .entry)) ⌝ }
+    ensures { λ r. ⌜ r ≡ siblingSchedule (now (w .entry)) (now (dm .entry)) ⌝ }
 {
     let mut v = [0u32; 80];
     for t in 0..80 {

@@ -9,7 +9,7 @@ use lib.ListN.{length, replicate, length-append, length-replicate}
 use lib.Seq.{drop-append-seam}
 use Rattle.word.specs.Choice.{pick}
 use Rattle.refusal.specs.Refusal.{isNothing}
-use Rattle.stream.specs.Fold.{lent, folded}
+use Rattle.stream.specs.Fold.{lookedAt, folded}
 use Rattle.stream.specs.declared.Chain.{Chain}
 use Rattle.stream.specs.declared.Flags.{Flags}
 use Rattle.hasher.specs.Hasher.{mostBlocks, wellFormed, taken, streamOf, chainOf, updateRefusal, absorbed, updated}
@@ -83,7 +83,7 @@ module _ (h : Hasher) (bytes table masks : List ℕ) where
           drop-append-seam (restOf s) (replicate (64 - length (restOf s)) 0),
           zeros-are (64 - length (restOf s)),
         )
-        (mark-stays-ok (h .flags .detect) (h .mark) _ (mark-kept (h .flags) table (chainOf h) s (lent (h .flags) masks)) (sure .mark-ok))
+        (mark-stays-ok (h .flags .detect) (h .mark) _ (mark-kept (h .flags) table (chainOf h) s (lookedAt (h .flags) masks)) (sure .mark-ok))
 
 -- what holds of the hasher, and of the one after an update that is not refused, holds of the one that an update hands back
 either-way : (P : Hasher → Type 0) (h : Hasher) (bytes table masks : List ℕ) (b : Bool) → isNothing (updateRefusal h bytes table masks) ≡ b

@@ -14,7 +14,8 @@ use Rattle.refusal.specs.declared.Refusal.the-variants.{Nothing, HasherForm, Ma
 use Rattle.stream.specs.Flags.{usesMasks}
 use Rattle.hasher.specs.Hasher.{mostBytes, wellFormed, taken, blocksFilled, tableRefusal, updateRefusal, absorbed, updated}
 use Rattle.hasher.specs.declared.Hasher.{Hasher}
-use Rattle.finish.specs.Finish.{digestSize, tailBlocks, finishRefusal}
+use Rattle.verdict.specs.Verdict.{digestSize}
+use Rattle.finish.specs.Finish.{tailBlocks, finishRefusal}
 
 -- a test in front of the other refusals did not refuse
 pub passed : (b : Bool) (x r : Refusal) → 0 < numberOf x → pick b x r ≡ Nothing → (b ≡ false) × (r ≡ Nothing)

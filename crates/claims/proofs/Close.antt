@@ -6,7 +6,8 @@ use lib.ListN.{length}
 use Rattle.refusal.specs.declared.Refusal.the-variants.{Nothing}
 use Rattle.hasher.specs.Hasher.{resetOf}
 use Rattle.hasher.specs.declared.Hasher.{Hasher}
-use Rattle.finish.specs.Finish.{digestSize, finishRefusal, finished, closed, writtenOut}
+use Rattle.verdict.specs.Verdict.{digestSize}
+use Rattle.finish.specs.Finish.{finishRefusal, finished, closed, writtenOut}
 use Rattle.claims.proofs.Calls.{finish-closing}
 use Rattle.claims.proofs.Kept.{reset-restores}
 

@@ -17,7 +17,7 @@ use Rattle.step.proofs.Runs.{steps-words, undos-words, steps-undos, undos-steps
 use Rattle.step.proofs.Same.{same-equal, same-self}
 use Rattle.block.specs.Schedule.{wordAt, wordsOf, scheduleOf}
 use Rattle.block.specs.Compress.{overSchedule, compressOf}
-use Rattle.block.specs.Sibling.{siblingOf, recompressed}
+use Rattle.block.specs.Sibling.{siblingSchedule, recompressed}
 use Rattle.block.proofs.Fill.{list-length}
 use Rattle.block.proofs.Growth.{schedule-at, word-given}
 use Rattle.block.proofs.Linear.{sibling-schedule, words-words}
@@ -34,7 +34,7 @@ use Rattle.claims.proofs.OneBlock.{block-answered, block-table-good}
 module _ (h : Regs) (block table : List ℕ) (hw : Words h) (bytes : AllBytes block) (words : AllWords table) where
   module _ (i : ℕ) (good : GoodRecord table i) where
     -- W xor dm is the schedule of the sibling block
-    pub sibling-is : siblingOf (scheduleOf (wordsOf block)) (dmAt table i) ≡ scheduleOf (siblingWords block table i)
+    pub sibling-is : siblingSchedule (scheduleOf (wordsOf block)) (dmAt table i) ≡ scheduleOf (siblingWords block table i)
     sibling-is =
         let m = wordsOf block in
         let dm = dmAt table i in

@@ -6,7 +6,7 @@ use Prim.Native.Nat.{ℕ}
 use Rattle.refusal.specs.Refusal.{isNothing}
 use Rattle.refusal.specs.declared.Refusal.the-variants.{Nothing}
 use Rattle.word.proofs.Tests.{of-either}
-use Rattle.stream.specs.Fold.{lent}
+use Rattle.stream.specs.Fold.{lookedAt}
 use Rattle.stream.specs.declared.Flags.{Flags}
 use Rattle.hasher.specs.Hasher.{allZero, wellFormed, chainOf, streamOf, updated, freshOf, resetOf}
 use Rattle.hasher.specs.declared.Hasher.{Hasher}
@@ -31,7 +31,7 @@ update-flags h bytes table masks =
 pub update-mark : (h : Hasher) (bytes table masks : List ℕ) → h .mark ≡ true → updated h bytes table masks .hasher .mark ≡ true
 update-mark h bytes table masks e =
     of-updated (λ (g : Hasher). g .mark ≡ true) h bytes table masks e
-    (λ a. rw (absorbed-is h bytes table masks, mark-after (h .flags) table (chainOf h) (streamOf h bytes) (lent (h .flags) masks), e))
+    (λ a. rw (absorbed-is h bytes table masks, mark-after (h .flags) table (chainOf h) (streamOf h bytes) (lookedAt (h .flags) masks), e))
 
 -- A finish hands its hasher back as it was.
 pub finish-keeps : (h : Hasher) (table masks : List ℕ) → finished h table masks .hasher ≡ h

@@ -21,11 +21,11 @@ use Rattle.step.proofs.Runs.{undos-steps}
 use Rattle.step.proofs.Same.{same-self}
 use Rattle.block.specs.Schedule.{wordsOf, scheduleOf}
 use Rattle.block.specs.Compress.{overSchedule, compressOf}
-use Rattle.block.specs.Sibling.{siblingOf, recompressed}
+use Rattle.block.specs.Sibling.{siblingSchedule, recompressed}
 use Rattle.block.proofs.Growth.{word, schedule-list, schedule-at}
 use Rattle.table.specs.Limits.{dmWords}
 use Rattle.table.specs.Table.{recordsIn, maskNumberAt, dmAt, tableFault}
-use Rattle.detect.specs.Detect.{hasBit, selects, testAt, siblingEnds, marks, foundIn, answerOf, oneBlockRefusal, refusedBlock, answeredBlock, oneBlockOf}
+use Rattle.detect.specs.Detect.{hasBit, selects, stepsBeforeAt, siblingEnds, marks, foundIn, answerOf, oneBlockRefusal, refusedBlock, answeredBlock, oneBlockOf}
 use Rattle.detect.specs.declared.Mode.{Mode}
 use Rattle.detect.specs.declared.OneBlock.{OneBlock}
 use Rattle.detect.specs.Ended.{Ended}
@@ -90,7 +90,7 @@ module _ (five block table : List ℕ) (mask : ℕ) (mode : Mode) where
       sized-table false k = absurd (omega (arith, ap numberOf k))
 
 -- the control record's sibling is the block itself
-own-sibling : (m : List ℕ) → siblingOf (scheduleOf m) (replicate dmWords 0) ≡ scheduleOf m
+own-sibling : (m : List ℕ) → siblingSchedule (scheduleOf m) (replicate dmWords 0) ≡ scheduleOf m
 own-sibling m =
     list-same _ (word m) 80 (λ t l. ap₂ bitXor (schedule-at m 80 t l) (getD-replicate 80 t 0 0 l) ∙ xor-zero-r (word m t))
     ∙ sym (schedule-list m 80)
@@ -98,11 +98,11 @@ own-sibling m =
 module _ (reduced : Bool) (table : List ℕ) (h : Regs) (m : List ℕ) (i : ℕ) (zeros : dmAt table i ≡ replicate dmWords 0) (hw : Words h) where
   back : siblingEnds h (scheduleOf m) table i .start ≡ h
   unfolding siblingEnds recompressed
-  back = rw (zeros, own-sibling m) (undos-steps (scheduleOf m) (testAt table i) 0 h hw)
+  back = rw (zeros, own-sibling m) (undos-steps (scheduleOf m) (stepsBeforeAt table i) 0 h hw)
 
   same-out : siblingEnds h (scheduleOf m) table i .out ≡ overSchedule h (scheduleOf m)
   unfolding siblingEnds recompressed
-  same-out = rw (zeros, own-sibling m, undos-steps (scheduleOf m) (testAt table i) 0 h hw)
+  same-out = rw (zeros, own-sibling m, undos-steps (scheduleOf m) (stepsBeforeAt table i) 0 h hw)
 
   control-marks : marks reduced h (scheduleOf m) table i ≡ true
   unfolding marks

@@ -29,7 +29,8 @@ use Rattle.stream.specs.declared.Flags.{Flags}
 use Rattle.hasher.specs.Hasher.{mostBytes, wellFormed, taken, blocksFilled, masksWrong, tableRefusal, updateRefusal, updated, freshOf, resetOf}
 use Rattle.hasher.specs.declared.Hasher.{Hasher}
 use Rattle.hasher.specs.declared.Updated.{Updated}
-use Rattle.finish.specs.Finish.{digestSize, tailBlocks, finishRefusal, outcomeRefusal, outcomeNumber, outcomePlace, finished, closed, writtenOut, oneShotRefusal, digested}
+use Rattle.verdict.specs.Verdict.{digestSize}
+use Rattle.finish.specs.Finish.{tailBlocks, finishRefusal, outcomeRefusal, outcomeNumber, outcomePlace, finished, closed, writtenOut, oneShotRefusal, digested}
 use Rattle.finish.specs.declared.Outcome.{Outcome}
 use Rattle.finish.specs.declared.Outcome.the-variants.{Done, Refused}
 use Rattle.claims.specs.Refusals.{WellFormed, OfTable, Miscounted, WellCounted, blocksOf, oneOf}

@@ -9,13 +9,14 @@ use lib.ListN.{length, take, drop, length-replicate}
 use Rattle.word.specs.Choice.{pick}
 use Rattle.refusal.specs.Refusal.{isNothing}
 use Rattle.stream.specs.Flags.{usesMasks, withMasks}
-use Rattle.stream.specs.Fold.{allBits, lent, blockOf, run, folded}
+use Rattle.stream.specs.Fold.{allBits, lookedAt, blockOf, run, folded}
 use Rattle.stream.specs.declared.Chain.{Chain}
 use Rattle.stream.specs.declared.Flags.{Flags}
 use Rattle.stream.specs.declared.Masks.the-variants.{All, Lent}
 use Rattle.hasher.specs.Hasher.{blocksFilled, wellFormed, taken, chainOf, streamOf, updateRefusal, advanced, absorbed, updated, freshOf}
 use Rattle.hasher.specs.declared.Hasher.{Hasher}
-use Rattle.finish.specs.Finish.{digestSize, tailBlocks, tailOf, finishRefusal, lastChain, finished, closed, writtenOut}
+use Rattle.verdict.specs.Verdict.{digestSize}
+use Rattle.finish.specs.Finish.{tailBlocks, tailOf, finishRefusal, lastChain, finished, closed, writtenOut}
 use Rattle.claims.specs.Settings.{masksOff, masksOn, everyBit, everyBlock, everyLast}
 
 -- With detection off neither the table nor the masks are looked at.
@@ -67,7 +68,7 @@ by-bits false step n k c xs = refl
 
 -- the chain with masks off is that with masks of every bit
 fold-bits : (f : Flags) (table : List ℕ) (c : Chain) (xs masks : List ℕ) (k : ℕ)
-    → folded (withMasks f All) table c xs (lent (withMasks f All) masks) ≡ folded (withMasks f Lent) table c xs (lent (withMasks f Lent) (everyBit k))
+    → folded (withMasks f All) table c xs (lookedAt (withMasks f All) masks) ≡ folded (withMasks f Lent) table c xs (lookedAt (withMasks f Lent) (everyBit k))
 unfolding folded
 fold-bits f table c xs masks k =
     rw (and-false (f .detect)) (by-bits (f .detect && true) (blockOf f table) (length xs / 64) k c xs)

@@ -7,7 +7,7 @@ use native.Mathlib.Omega.{arith}
 use lib.ListN.{length, take, drop, length-append}
 use lib.Seq.{drop-drop, drop-append-le, take-append-seam}
 use Rattle.stream.specs.Flags.{usesMasks}
-use Rattle.stream.specs.Fold.{lent, folded}
+use Rattle.stream.specs.Fold.{lookedAt, folded}
 use Rattle.stream.specs.declared.Chain.{Chain}
 use Rattle.hasher.specs.Hasher.{chainOf, streamOf, zeroed, moved, advanced, absorbed}
 use Rattle.hasher.specs.declared.Hasher.{Hasher}
@@ -32,7 +32,7 @@ stream-length h bytes long below = stream-long (h .pending) bytes (h .fill) long
 
 -- the chain after an update
 abbrev pub chainAfter : Hasher → List ℕ → List ℕ → List ℕ → Chain
-chainAfter h bytes table masks = folded (h .flags) table (chainOf h) (streamOf h bytes) (lent (h .flags) masks)
+chainAfter h bytes table masks = folded (h .flags) table (chainOf h) (streamOf h bytes) (lookedAt (h .flags) masks)
 
 pub absorbed-is : (h : Hasher) (bytes table masks : List ℕ)
     → absorbed h bytes table masks ≡ moved h (chainAfter h bytes table masks) (restOf (streamOf h bytes)) (length (streamOf h bytes) / 64)
@@ -44,7 +44,7 @@ absorbed-is h bytes table masks =
 -- an update of a hasher that an update gave
 absorbed-moved : (h : Hasher) (c : Chain) (rest e table ns : List ℕ) (n : ℕ)
     → absorbed (moved h c rest n) e table ns
-    ≡ moved h (folded (h .flags) table c (rest ++ e) (lent (h .flags) ns)) (restOf (rest ++ e)) (n + length (rest ++ e) / 64)
+    ≡ moved h (folded (h .flags) table c (rest ++ e) (lookedAt (h .flags) ns)) (restOf (rest ++ e)) (n + length (rest ++ e) / 64)
 absorbed-moved h c rest e table ns n =
     let f : take (length rest) (zeroed rest) ≡ rest = take-append-seam rest _ in
     let b : h .blocks + n + length (rest ++ e) / 64 ≡ h .blocks + (n + length (rest ++ e) / 64) = omega arith in

@@ -7,12 +7,13 @@ use Rattle.word.specs.Choice.{pick}
 use Rattle.refusal.specs.Refusal.{isNothing}
 use Rattle.refusal.specs.declared.Refusal.the-variants.{Nothing}
 use Rattle.stream.specs.Flags.{defaults}
-use Rattle.stream.specs.Fold.{lent}
+use Rattle.stream.specs.Fold.{lookedAt}
 use Rattle.stream.specs.declared.Flags.{Flags}
 use Rattle.hasher.specs.Hasher.{updated, freshOf}
 use Rattle.hasher.specs.declared.Hasher.{Hasher}
 use Rattle.hasher.specs.declared.Updated.{Updated}
-use Rattle.finish.specs.Finish.{digestSize, tailBlocks, finishRefusal, finished}
+use Rattle.verdict.specs.Verdict.{digestSize}
+use Rattle.finish.specs.Finish.{tailBlocks, finishRefusal, finished}
 use Rattle.finish.specs.declared.Finished.{Finished}
 
 -- a piece of a message, and the masks that are lent with it
@@ -51,7 +52,7 @@ inTwo bytes table first last = finished (updated (freshOf defaults) bytes table 
 
 -- the masks of a message's blocks, padding included: those lent, or none where they are not looked at
 abbrev pub blockMasks : Flags → List Piece → List ℕ → List ℕ
-blockMasks f ps last = lent f (lentMasks ps ++ last)
+blockMasks f ps last = lookedAt f (lentMasks ps ++ last)
 
 -- no call is refused, neither an update nor the finish
 pub record NoneRefused (f : Flags) (table : List ℕ) (ps : List Piece) (last : List ℕ) : Type 0 where

@@ -9,7 +9,7 @@ use Rattle.step.specs.Step.{stepsOf, sameRegs, regsOf, fiveOf}
 use Rattle.step.specs.declared.Regs.{Regs}
 use Rattle.block.specs.Schedule.{wordsOf, scheduleOf}
 use Rattle.block.specs.Compress.{overSchedule}
-use Rattle.block.specs.Sibling.{siblingOf, recompressed}
+use Rattle.block.specs.Sibling.{siblingSchedule, recompressed}
 use Rattle.block.specs.declared.Ends.{Ends}
 use Rattle.refusal.specs.Refusal.{isNothing, firstOf}
 use Rattle.refusal.specs.declared.Refusal.{Refusal}
@@ -33,23 +33,23 @@ abbrev pub selects : ℕ → List ℕ → ℕ → Bool
 selects mask table i = hasBit mask (maskNumberAt table i)
 
 -- how many steps lie before record i's test step
-abbrev pub testAt : List ℕ → ℕ → ℕ
-testAt table i = stepsBefore (testtOf (testWordAt table i))
+abbrev pub stepsBeforeAt : List ℕ → ℕ → ℕ
+stepsBeforeAt table i = stepsBefore (testtOf (testWordAt table i))
 
 -- the state that a compression kept for a test step
-abbrev pub stateAt : Testt → States → Regs
-stateAt T58 s = s .s58
-stateAt T65 s = s .s65
+abbrev pub stateKept : Testt → States → Regs
+stateKept T58 s = s .s58
+stateKept T65 s = s .s65
 
 -- the sibling by record i of the block with the schedule w, from the state that was kept for the test step
 abbrev pub endsFrom : States → List ℕ → List ℕ → ℕ → Ends
 endsFrom s w table i =
-    recompressed (siblingOf w (dmAt table i)) (testAt table i) (stateAt (testtOf (testWordAt table i)) s)
+    recompressed (siblingSchedule w (dmAt table i)) (stepsBeforeAt table i) (stateKept (testtOf (testWordAt table i)) s)
 
 -- the same, from the block's own state at the test step
 unfoldable pub siblingEnds : Regs → List ℕ → List ℕ → ℕ → Ends
 siblingEnds h w table i =
-    recompressed (siblingOf w (dmAt table i)) (testAt table i) (stepsOf w 0 (testAt table i) h)
+    recompressed (siblingSchedule w (dmAt table i)) (stepsBeforeAt table i) (stepsOf w 0 (stepsBeforeAt table i) h)
 
 -- record i marks the block: the sibling ends in the block's output or, in reduced-round mode, starts from its start
 unfoldable pub marks : Bool → Regs → List ℕ → List ℕ → ℕ → Bool

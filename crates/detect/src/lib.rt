@@ -10,7 +10,7 @@ ghost use Rattle.block.specs.Sibling.{recompressed};
 ghost use Rattle.table.specs.Limits.{recordWords};
 ghost use Rattle.table.specs.Table.{stepsBefore};
 ghost use Rattle.step.specs.Step.{stepsOf};
-ghost use Rattle.detect.specs.Detect.{hasBit, stateAt, endsFrom, marks, foundIn, twiceMore, answerOf, refusedBlock, oneBlockOf};
+ghost use Rattle.detect.specs.Detect.{hasBit, stateKept, endsFrom, marks, foundIn, twiceMore, answerOf, refusedBlock, oneBlockOf};
 use block::Ends;
 use block::States;
 use block::compression_states;
@@ -72,7 +72,7 @@ fn has_bit(mask: u32, k: u32) -> bool
 
 // The sibling's compression from the state at the test step.
 fn recompression_step(at: Testt, v: &[u32; 80], s: States) -> Ends
-    ensures { λ r. ⌜ r ≡ recompressed (now (v .entry)) (stepsBefore at) (stateAt at s) ⌝ }
+    ensures { λ r. ⌜ r ≡ recompressed (now (v .entry)) (stepsBefore at) (stateKept at s) ⌝ }
 {
     match at {
         Testt::T58 => recompress_fast_58(v, s.s58),

@@ -11,7 +11,8 @@ use Rattle.refusal.specs.declared.Refusal.{Refusal}
 use Rattle.refusal.specs.declared.Refusal.the-variants.{HasherForm, Size}
 use Rattle.hasher.specs.Hasher.{wellFormed}
 use Rattle.hasher.specs.declared.Hasher.{Hasher}
-use Rattle.finish.specs.Finish.{digestSize, finishRefusal}
+use Rattle.verdict.specs.Verdict.{digestSize}
+use Rattle.finish.specs.Finish.{finishRefusal}
 
 -- what a test whether r is nothing says of the meaning that r equals
 pub tested : {r s : Refusal} {b t : Bool} → r ≡ s → b ≡ isNothing r → b ≡ t → isNothing s ≡ t

@@ -11,7 +11,7 @@ use lib.Seq.{take-append-seam, drop-nil, drop-at}
 use Rattle.word.specs.Choice.{pick}
 use Rattle.stream.specs.Fips.{be64, zerosFor, paddingFor, padded, initial}
 use Rattle.stream.specs.Flags.{usesMasks}
-use Rattle.stream.specs.Fold.{blockOf, lent, run, folded}
+use Rattle.stream.specs.Fold.{blockOf, lookedAt, run, folded}
 use Rattle.stream.specs.declared.Chain.{Chain}
 use Rattle.stream.specs.declared.Flags.{Flags}
 use Rattle.stream.proofs.Folds.{run-masks}
@@ -71,27 +71,27 @@ masks-first false step c xs ms ns n h = refl
 
 -- a stream in two parts, with the masks of both: the first part's blocks, and then its rest with the second part
 pub folded-lent : (f : Flags) (table : List ℕ) (c : Chain) (s e ms ns : List ℕ) → (usesMasks f ≡ true → length ms ≡ length s / 64)
-    → folded f table c (s ++ e) (lent f (ms ++ ns)) ≡ folded f table (folded f table c s (lent f ms)) (restOf s ++ e) (lent f ns)
+    → folded f table c (s ++ e) (lookedAt f (ms ++ ns)) ≡ folded f table (folded f table c s (lookedAt f ms)) (restOf s ++ e) (lookedAt f ns)
 folded-lent f table c s e ms ns counts =
     let n = length s / 64 in
-    let first : folded f table c s (lent f (ms ++ ns)) ≡ folded f table c s (lent f ms) =
-    folded-is f table c s (lent f (ms ++ ns))
+    let first : folded f table c s (lookedAt f (ms ++ ns)) ≡ folded f table c s (lookedAt f ms) =
+    folded-is f table c s (lookedAt f (ms ++ ns))
     ∙ masks-first (usesMasks f) (blockOf f table) c s ms ns n counts
-    ∙ sym (folded-is f table c s (lent f ms))
+    ∙ sym (folded-is f table c s (lookedAt f ms))
     in
-    rw (folded-cut f table c s e (lent f (ms ++ ns)), first, masks-second (usesMasks f) ms ns n counts)
+    rw (folded-cut f table c s e (lookedAt f (ms ++ ns)), first, masks-second (usesMasks f) ms ns n counts)
 
 -- a hasher that took a message from the start
 pub absorbed-is : (f : Flags) (msg table ms : List ℕ)
     → absorbed (freshOf f) msg table ms
-    ≡ moved (freshOf f) (folded f table (record { words = initial; mark = false }) msg (lent f ms)) (restOf msg) (0 + length msg / 64)
+    ≡ moved (freshOf f) (folded f table (record { words = initial; mark = false }) msg (lookedAt f ms)) (restOf msg) (0 + length msg / 64)
 unfolding absorbed advanced
 absorbed-is f msg table ms = refl
 
 -- the chain after its finish is that after the padded message, with the masks of both calls
 pub last-chain-is : (f : Flags) (msg table ms ns : List ℕ) → (usesMasks f ≡ true → length ms ≡ length msg / 64)
     → lastChain (absorbed (freshOf f) msg table ms) table ns
-    ≡ folded f table (record { words = initial; mark = false }) (padded msg) (lent f (ms ++ ns))
+    ≡ folded f table (record { words = initial; mark = false }) (padded msg) (lookedAt f (ms ++ ns))
 unfolding lastChain
 last-chain-is f msg table ms ns counts =
     let e = rest-length msg in

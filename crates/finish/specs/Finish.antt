@@ -8,11 +8,11 @@ use Rattle.word.specs.Choice.{pick}
 use Rattle.refusal.specs.Refusal.{numberOf, placeOf, isNothing}
 use Rattle.refusal.specs.declared.Refusal.{Refusal}
 use Rattle.refusal.specs.declared.Refusal.the-variants.{Nothing, HasherForm, MaskCount, MessageLength, Size}
-use Rattle.verdict.specs.Verdict.{verdictOf}
+use Rattle.verdict.specs.Verdict.{digestSize, verdictOf}
 use Rattle.table.specs.Table.{tableFault}
 use Rattle.stream.specs.Fips.{be64, padded, initial, digestOf}
 use Rattle.stream.specs.Flags.{defaults}
-use Rattle.stream.specs.Fold.{lent, folded}
+use Rattle.stream.specs.Fold.{lookedAt, folded}
 use Rattle.stream.specs.declared.Chain.{Chain}
 use Rattle.hasher.specs.Hasher.{mostBytes, wellFormed, taken, chainOf, masksWrong, tableRefusal, freshOf}
 use Rattle.hasher.specs.declared.Hasher.{Hasher}
@@ -21,10 +21,6 @@ use Rattle.finish.specs.declared.Outcome.the-variants.{Done, Refused}
 use Rattle.finish.specs.declared.Finished.{Finished}
 use Rattle.finish.specs.declared.Closed.{Closed}
 use Rattle.finish.specs.declared.Digested.{Digested}
-
--- bytes in a digest
-abbrev pub digestSize : ℕ
-digestSize = 20
 
 -- `SHA1_PADDING`: the byte 80 and 63 zeros
 abbrev pub paddingBytes : List ℕ
@@ -45,7 +41,7 @@ tailOf pending fill bytes = take fill pending ++ take (padLen fill) paddingBytes
 -- the chain after the last blocks
 unfoldable pub lastChain : Hasher → List ℕ → List ℕ → Chain
 lastChain h table masks =
-    folded (h .flags) table (chainOf h) (tailOf (h .pending) (h .fill) (taken h)) (lent (h .flags) masks)
+    folded (h .flags) table (chainOf h) (tailOf (h .pending) (h .fill) (taken h)) (lookedAt (h .flags) masks)
 
 -- what a finish refuses: 1, 8 for an output of another size, 6, then the table
 unfoldable pub finishRefusal : Hasher → ℕ → List ℕ → List ℕ → Refusal

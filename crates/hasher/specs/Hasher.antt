@@ -12,7 +12,7 @@ use Rattle.refusal.specs.declared.Refusal.the-variants.{Nothing, HasherForm, Ma
 use Rattle.table.specs.Table.{tableFault}
 use Rattle.stream.specs.Fips.{initial}
 use Rattle.stream.specs.Flags.{usesMasks}
-use Rattle.stream.specs.Fold.{lent, folded}
+use Rattle.stream.specs.Fold.{lookedAt, folded}
 use Rattle.stream.specs.declared.Chain.{Chain}
 use Rattle.stream.specs.declared.Flags.{Flags}
 use Rattle.hasher.specs.declared.Hasher.{Hasher}
@@ -87,7 +87,7 @@ advanced h table c s masks k =
 
 -- the hasher after an update that is not refused
 unfoldable pub absorbed : Hasher → List ℕ → List ℕ → List ℕ → Hasher
-absorbed h bytes table masks = advanced h table (chainOf h) (streamOf h bytes) (lent (h .flags) masks) 0
+absorbed h bytes table masks = advanced h table (chainOf h) (streamOf h bytes) (lookedAt (h .flags) masks) 0
 
 -- what an update gives: a refused hasher comes back unchanged
 unfoldable pub updated : Hasher → List ℕ → List ℕ → List ℕ → Updated

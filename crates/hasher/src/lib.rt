@@ -3,7 +3,7 @@ ghost use mathlib.Core.Path.{_≡_};
 ghost use Prim.Native.Nat.{_+_, _*_, _<_, _≤_, _^_};
 ghost use lib.ListN.{length, drop};
 ghost use lib.Seq.{paste};
-ghost use Rattle.stream.specs.Fold.{lent};
+ghost use Rattle.stream.specs.Fold.{lookedAt};
 ghost use Rattle.hasher.specs.Hasher.{allZero, wellFormed, masksWrong, tableRefusal, updateRefusal, advanced, absorbed, updated, freshOf, resetOf};
 ghost use Rattle.hasher.specs.Ready.{Ready};
 use refusal::Refusal;

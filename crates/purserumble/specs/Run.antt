@@ -12,7 +12,8 @@ use Rattle.refusal.specs.declared.Refusal.the-variants.{Nothing}
 use Rattle.stream.specs.declared.Flags.{Flags}
 use Rattle.hasher.specs.declared.Hasher.{Hasher}
 use Rattle.file.specs.File.{tableOf, fileFault}
-use Rattle.finish.specs.Finish.{digestSize, finished}
+use Rattle.verdict.specs.Verdict.{digestSize}
+use Rattle.finish.specs.Finish.{finished}
 use Rattle.finish.specs.declared.Finished.{Finished}
 use Rattle.finish.specs.declared.Outcome.{Outcome}
 use Rattle.finish.specs.declared.Outcome.the-variants.{Done, Refused}
@@ -55,8 +56,8 @@ outcomeSays (Done v) digest = record { saying = SayVerdict v; digest = digest }
 outcomeSays (Refused r) digest = silentOf (SayRefused r)
 
 -- what a finish says
-abbrev pub answerOf : Finished → Answer
-answerOf f = outcomeSays (f .outcome) (f .digest)
+abbrev pub finishSays : Finished → Answer
+finishSays f = outcomeSays (f .outcome) (f .digest)
 
 -- the pieces as calls: masks are off, so none is lent
 abbrev pub calls : List (List ℕ) → List Piece
@@ -65,7 +66,7 @@ calls bs = map (λ b. record { bytes = b; masks = [] }) bs
 -- the answer to what was heard: the number of the update refused, else 16 if a read failed, else what the finish says
 unfoldable pub concluded : Heard → List ℕ → Answer
 concluded h table =
-    pick (isNothing (h .refusal)) (pick (h .failed) (silentOf Unread) (answerOf (finished (h .hasher) table []))) (silentOf (SayRefused (h .refusal)))
+    pick (isNothing (h .refusal)) (pick (h .failed) (silentOf Unread) (finishSays (finished (h .hasher) table []))) (silentOf (SayRefused (h .refusal)))
 
 -- the answer to a message in pieces: to what its updates give, with whether a read failed after the last
 unfoldable pub answerTo : Flags → List ℕ → List (List ℕ) → Bool → Answer

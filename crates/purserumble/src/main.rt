@@ -2,7 +2,7 @@
 ghost use mathlib.Core.Path.{_≡_};
 ghost use Prim.Native.Nat.{_≤_};
 ghost use lib.ListN.{length};
-ghost use Rattle.purserumble.specs.Run.{below0, fileEnd, sizeOf, messageEnd, silentOf, answerOf, concluded, answerTo, holds, answerWith, Asks, Fed, Answers, AnswersFile, Responds};
+ghost use Rattle.purserumble.specs.Run.{below0, fileEnd, sizeOf, messageEnd, silentOf, finishSays, concluded, answerTo, holds, answerWith, Asks, Fed, Answers, AnswersFile, Responds};
 use console::Saying;
 use console::Setting;
 use console::Word;
@@ -182,7 +182,7 @@ fn silent(saying: Saying) -> Answer
 
 // What a finish says.
 fn answer_of(f: Finished) -> Answer
-    ensures { λ r. ⌜ r ≡ answerOf f ⌝ }
+    ensures { λ r. ⌜ r ≡ finishSays f ⌝ }
 {
     let outcome = f.outcome;
     let digest = f.digest;

@@ -11,7 +11,8 @@ use Rattle.word.specs.Choice.{pick}
 use Rattle.refusal.specs.Refusal.{numberOf, isNothing}
 use Rattle.refusal.specs.declared.Refusal.{Refusal}
 use Rattle.verdict.specs.declared.Verdict.{Verdict}
-use Rattle.sheet.specs.Sheet.{digestSize, sameBytes, recordsOn, recordFor, lookupRefusal, partOf}
+use Rattle.verdict.specs.Verdict.{digestSize}
+use Rattle.sheet.specs.Sheet.{sameBytes, recordsOn, recordFor, lookupRefusal, partOf}
 use Rattle.sheet.specs.Compare.{comparedNumber, comparisonOf, comparedOf}
 use Rattle.sheet.specs.declared.Comparison.the-variants.{Match, Differs, Absent}
 use Rattle.sheet.specs.declared.Compared.the-variants.{Said, Refused}

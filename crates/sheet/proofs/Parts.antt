@@ -11,7 +11,8 @@ use denote.Ref.{RefT, now}
 use borrow.Author.Tests.{not-true, not-false, lt-ltb, le-ltb}
 use Rattle.refusal.specs.Refusal.{isNothing}
 use Rattle.refusal.specs.declared.Refusal.{Refusal}
-use Rattle.sheet.specs.Sheet.{barcodeSize, digestSize, recordSize, digestAt, recordsOn, recordFor}
+use Rattle.verdict.specs.Verdict.{digestSize}
+use Rattle.sheet.specs.Sheet.{barcodeSize, recordSize, digestAt, recordsOn, recordFor}
 use Rattle.sheet.specs.Sheet.{lookupRefusal, partFrom, partOf, placeIn}
 
 -- a record's digest has no byte missing

@@ -6,6 +6,7 @@ use lib.Dec.{eqb, ltb}
 use lib.ListN.{length, take, drop}
 use denote.Ref.{RefT, ptr}
 use Rattle.word.specs.Choice.{pick}
+use Rattle.verdict.specs.Verdict.{digestSize}
 use Rattle.refusal.specs.Refusal.{isNothing}
 use Rattle.refusal.specs.declared.Refusal.{Refusal}
 use Rattle.refusal.specs.declared.Refusal.the-variants.{Nothing, Size, SheetLength}
@@ -13,10 +14,6 @@ use Rattle.refusal.specs.declared.Refusal.the-variants.{Nothing, Size, SheetLen
 -- bytes in a barcode
 abbrev pub barcodeSize : ℕ
 barcodeSize = 12
-
--- bytes in a digest
-abbrev pub digestSize : ℕ
-digestSize = 20
 
 -- bytes in a record: its barcode, then its digest
 abbrev pub recordSize : ℕ

@@ -17,8 +17,8 @@ abbrev pub allBits : ℕ
 allBits = 2 ^ maskBits - 1
 
 -- the masks that a call looks at: those lent, or none
-abbrev pub lent : Flags → List ℕ → List ℕ
-lent f masks = pick (usesMasks f) masks []
+abbrev pub lookedAt : Flags → List ℕ → List ℕ
+lookedAt f masks = pick (usesMasks f) masks []
 
 -- the chain after one block with detection: a marked block leaves a mark, and no other takes it away
 unfoldable pub checkedOf : Mode → List ℕ → Chain → List ℕ → ℕ → Chain

@@ -4,7 +4,7 @@ ghost use Prim.Native.Nat.{_/_};
 ghost use lib.ListN.{length, getD};
 ghost use Rattle.stream.specs.Fips.{hashBlocks};
 ghost use Rattle.stream.specs.Flags.{isLent, usesMasks, defaults, withDetect, withMitigate, withMasks, masksOf, withReduced};
-ghost use Rattle.stream.specs.Fold.{allBits, lent, checkedOf, run, folded};
+ghost use Rattle.stream.specs.Fold.{allBits, lookedAt, checkedOf, run, folded};
 use block::compression_plain;
 use detect::Mode;
 use detect::compress;
@@ -113,7 +113,7 @@ pub fn uses_masks(f: Flags) -> bool
 
 // The masks that a call looks at: those lent, or none.
 pub fn lent_masks<'a>(f: Flags, masks: &'a [u32]) -> &'a [u32]
-    ensures { λ r. ⌜ now r ≡ lent f (now (masks .entry)) ⌝ }
+    ensures { λ r. ⌜ now r ≡ lookedAt f (now (masks .entry)) ⌝ }
 {
     if uses_masks(f) {
         return masks;

@@ -6,6 +6,10 @@ use Rattle.word.specs.Choice.{pick}
 use Rattle.verdict.specs.declared.Verdict.{Verdict}
 use Rattle.verdict.specs.declared.Verdict.the-variants.{Ok, Mitigated, Collision}
 
+-- bytes in a digest, which stands beside a verdict
+abbrev pub digestSize : ℕ
+digestSize = 20
+
 -- ok without a mark, else mitigated with mitigation on, else collision
 abbrev pub verdictOf : Bool → Bool → Verdict
 verdictOf mark mitigate = pick mark (pick mitigate Mitigated Collision) Ok

@@ -4,7 +4,7 @@ use Prim.Native.Nat.{_+_, _-_, _*_, _≤_}
 use native.Mathlib.Omega.{arith}
 use lib.ListN.{length, drop}
 use lib.Seq.{paste}
-use Rattle.stream.specs.Fold.{lent}
+use Rattle.stream.specs.Fold.{lookedAt}
 use Rattle.hasher.specs.Hasher.{absorbed, chainOf, streamOf}
 use Rattle.hasher.proofs.Moves.{five-is, tail-is, advanced-none, advanced-join, stream-long, pend-more, pend-block, pend-full}
 use borrow.Author.Needs.{needs}
@@ -49,7 +49,7 @@ returns-2 c =
     let e = stream-long (h .pending) d (h .fill) l (z .pre .fill-le) in
     let b : h .blocks + 0 ≡ h .blocks = omega arith in
     rw (
-      advanced-none h (z .args .table .now) (chainOf h) (streamOf h d) (lent (h .flags) (z .args .masks .now)) 0 (omega arith),
+      advanced-none h (z .args .table .now) (chainOf h) (streamOf h d) (lookedAt (h .flags) (z .args .masks .now)) 0 (omega arith),
       c .copied .ensures,
       pend-more (h .pending) d (h .fill) l (z .pre .fill-le) (z .pre .zeros) (omega arith),
       e,
@@ -103,7 +103,7 @@ returns-3 c =
       tail-is d (64 - h .fill),
       pend-full (h .pending) d (h .fill) l (z .pre .fill-le) g,
     )
-    (sym (advanced-join h (z .args .table .now) (chainOf h) 1 _ (drop (64 - h .fill) d) (lent (h .flags) (z .args .masks .now)) 0 b))
+    (sym (advanced-join h (z .args .table .now) (chainOf h) 1 _ (drop (64 - h .fill) d) (lookedAt (h .flags) (z .args .masks .now)) 0 b))
 
 pub absorb-spec : {M : Type 1} → statement M
 absorb-spec =

@@ -3,7 +3,7 @@
  *   differ TALLY NAME_A NAME_B REQUESTS ANSWERS_A ANSWERS_B    adds to the tally, shows the first differences
  *   differ TALLY NAME_A NAME_B                                 prints the tally
  *
- * A request that one side does not know is left out. But where the Rust could not be asked (one block, session,
+ * A request that the oracle does not know is left out; every other side must know all. And where the Rust could not be asked (one block, session,
  * one-shot), the paper has a refusal: the other side must have refused, or it is a difference.
  * The last line of a print is `N comparisons, M differences`; the exit status of both forms is 0 only without a
  * difference.
@@ -73,11 +73,11 @@ static void see(int kind, int call, struct in b)
         tally.unmarked_tried += !mark && tried;
     } else if (kind == ONE_SHOT || (kind == SESSION && call >= FINISH)) {
         uint64_t verdict = number(&b, 8);
-        tally.verdicts[verdict < 3 ? verdict : 0]++;
+        tally.verdicts[(verdict + 2) % 3]++; /* 1 to 3 */
     } else if (kind == LOOKUP) {
         number(&b, 8) ? tally.found++ : tally.absent++;
     } else if (kind == COMPARE) {
-        tally.compares[first < 3 ? first : 0]++;
+        tally.compares[(first + 2) % 3]++;
     }
 }
 
@@ -86,7 +86,7 @@ static void one(uint64_t n, int kind, int call, const struct field *fields, int 
 {
     const char *named = kind == SESSION ? call_name[call] : "";
     int known_a = number(a, 1), known_b = number(b, 1), differs = 0;
-    struct in from_a = *a, from_b = *b;
+    struct in from_b = *b;
     if (known_b) see(kind, call, from_b);
     for (const struct field *f = fields; f->name; f++) {
         struct in x = { take(a, f->len), f->len }, y = { take(b, f->len), f->len };
@@ -112,8 +112,11 @@ static void one(uint64_t n, int kind, int call, const struct field *fields, int 
         tally.compared[kind]++;
     } else {
         tally.left_out[kind]++;
-        if (kind <= ONE_SHOT && known_a != known_b && number(known_a ? &from_a : &from_b, 4) == 0) {
-            struct in none = { NULL, 0 };
+        struct in none = { NULL, 0 };
+        if (!known_b || (!known_a && strcmp(name_a, "oracle") != 0)) {
+            show(n, kind, named, "being known", none, none);
+            differs = 1;
+        } else if (kind <= ONE_SHOT && number(&from_b, 4) == 0) {
             show(n, kind, named, "being refused: one side could not be asked, the other answers", none, none);
             differs = 1;
         }
@@ -161,7 +164,7 @@ static void add(const char *requests, const char *answers_a, const char *answers
 static void refusals(int kind)
 {
     for (int i = 0; i < NUMBERS; i++)
-        if (tally.refused[kind][i]) printf(" %d:%" PRIu64, i, tally.refused[kind][i]);
+        if (tally.refused[kind][i]) printf(" %d:%" PRIu64, i ? i : 255, tally.refused[kind][i]);
     printf("\n");
 }
 

@@ -59,19 +59,19 @@ static void set_table(struct in body)
 
 static void one_block(struct in body, struct out *o)
 {
-    uint32_t words[5];
+    uint32_t words[5], after[5] = { 99, 99, 99, 99, 99 };
     for (int i = 0; i < 5; i++) words[i] = number(&body, 4);
     uint32_t slot = slot_of(&body), mask = number(&body, 4), flags = number(&body, 1);
     uint64_t answer[4] = { 99, 99, 99, 99 };
     uint32_t refusal = purserumble_one_block(words, 5, body.at, body.left, TABLE_OF(slot), mask,
-        (flags & MITIGATE) != 0, (flags & REDUCED) != 0, answer, 4);
+        (flags & MITIGATE) != 0, (flags & REDUCED) != 0, after, 5, answer, 4);
     put(o, 1, 1);
     put(o, refusal, 4);
     put(o, answer[3], 8);
     put(o, answer[0], 8);
     put(o, answer[1], 8);
     put(o, answer[2], 8);
-    put_words(o, words, 5);
+    put_words(o, after, 5);
 }
 
 static void call_answer(struct out *o, uint32_t refusal, const uint64_t answer[2])
@@ -82,58 +82,61 @@ static void call_answer(struct out *o, uint32_t refusal, const uint64_t answer[2
     put(o, answer[0], 8);
 }
 
+/* One call of a session, as the request has it. */
+struct call { int what; uint32_t slot; struct in bytes; uint32_t *masks; size_t masks_len; struct lent out; };
+
+static struct call call_of(struct in *body)
+{
+    struct call c = { .what = number(body, 1) };
+    if (c.what != RESET) {
+        c.slot = slot_of(body);
+        if (c.what == UPDATE) {
+            c.bytes.left = number(body, 4);
+            c.bytes.at = take(body, c.bytes.left);
+        }
+        c.masks_len = number(body, 4);
+        c.masks = words_of(body, c.masks_len);
+    }
+    size_t out_len = c.what == FINISH_AND_RESET ? number(body, 4) : c.what == FINISH ? 20 : 0;
+    c.out = lend(out_len, c.what == FINISH_AND_RESET ? number(body, 1) : 0xA5);
+    return c;
+}
+
+struct hasher { uint32_t words[5]; struct lent pending; uint64_t state[4]; };
+
+#define HASHER h->words, 5, h->pending.at, 64, h->state, 4
+#define LENT_TO(c) TABLE_OF((c).slot), (c).masks, (c).masks_len
+
+static uint32_t made(struct call c, struct hasher *h, uint64_t answer[2])
+{
+    switch (c.what) {
+    case UPDATE: return purserumble_update(HASHER, c.bytes.at, c.bytes.left, LENT_TO(c), answer, 2);
+    case RESET: return purserumble_reset(HASHER, answer, 2);
+    case FINISH: return purserumble_finish(HASHER, c.out.at, 20, LENT_TO(c), answer, 2);
+    case FINISH_AND_RESET: return purserumble_finish_and_reset(HASHER, c.out.at, c.out.len, LENT_TO(c), answer, 2);
+    }
+    stop("no such call");
+    return 0;
+}
+
 static void session(struct in body, struct out *o)
 {
-    uint32_t words[5];
-    for (int i = 0; i < 5; i++) words[i] = number(&body, 4);
-    struct lent pending = lend(64, 0);
-    memcpy(pending.at, take(&body, 64), 64);
-    uint64_t state[4];
-    for (int i = 0; i < 4; i++) state[i] = number(&body, 8);
-#define HASHER words, 5, pending.at, 64, state, 4
+    struct hasher h = { .pending = lend(64, 0) };
+    for (int i = 0; i < 5; i++) h.words[i] = number(&body, 4);
+    memcpy(h.pending.at, take(&body, 64), 64);
+    for (int i = 0; i < 4; i++) h.state[i] = number(&body, 8);
     while (body.left) {
-        int call = number(&body, 1);
+        struct call c = call_of(&body);
         uint64_t answer[2] = { 99, 99 };
-        uint32_t refusal = 0, slot = 0;
-        struct in bytes = { NULL, 0 };
-        size_t masks_len = 0;
-        uint32_t *masks = NULL;
-        if (call != RESET) {
-            slot = slot_of(&body);
-            if (call == UPDATE) {
-                bytes.left = number(&body, 4);
-                bytes.at = take(&body, bytes.left);
-            }
-            masks_len = number(&body, 4);
-            masks = words_of(&body, masks_len);
-        }
-        size_t out_len = 0;
-        uint8_t fill = 0xA5;
-        if (call == FINISH) out_len = 20;
-        if (call == FINISH_AND_RESET) {
-            out_len = number(&body, 4);
-            fill = number(&body, 1);
-        }
-        struct lent out = lend(out_len, fill);
-        if (call == UPDATE)
-            refusal = purserumble_update(HASHER, bytes.at, bytes.left, TABLE_OF(slot), masks, masks_len, answer, 2);
-        else if (call == RESET)
-            refusal = purserumble_reset(HASHER, answer, 2);
-        else if (call == FINISH)
-            refusal = purserumble_finish(HASHER, out.at, 20, TABLE_OF(slot), masks, masks_len, answer, 2);
-        else if (call == FINISH_AND_RESET)
-            refusal = purserumble_finish_and_reset(HASHER, out.at, out_len, TABLE_OF(slot), masks, masks_len, answer, 2);
-        else
-            stop("no such call");
-        call_answer(o, refusal, answer);
-        put_words(o, words, 5);
-        put_raw(o, pending.at, 64);
-        for (int i = 0; i < 4; i++) put(o, state[i], 8);
-        put_bytes(o, out.at, out_len);
-        give_back(out);
-        free(masks);
+        call_answer(o, made(c, &h, answer), answer);
+        put_words(o, h.words, 5);
+        put_raw(o, h.pending.at, 64);
+        for (int i = 0; i < 4; i++) put(o, h.state[i], 8);
+        put_bytes(o, c.out.at, c.out.len);
+        give_back(c.out);
+        free(c.masks);
     }
-    give_back(pending);
+    give_back(h.pending);
 }
 
 static void one_shot(struct in body, struct out *o)

@@ -119,9 +119,9 @@ fn astray(looked_at: bool, masks: usize) -> u64 {
 
 fn verdict(r: &CollisionResult) -> u64 {
     match r {
-        CollisionResult::Ok(_) => 0,
-        CollisionResult::Mitigated(_) => 1,
-        CollisionResult::Collision(_) => 2,
+        CollisionResult::Ok(_) => 1,
+        CollisionResult::Mitigated(_) => 2,
+        CollisionResult::Collision(_) => 3,
     }
 }
 
@@ -134,7 +134,8 @@ fn hasher(body: &mut In) -> Option<State> {
     let real = fill < 64
         && blocks < 1 << 55
         && pending[fill as usize..].iter().all(|b| *b == 0)
-        && (mark == 0 || flag(1));
+        && mark <= flags & 1
+        && flags < 16;
     let state = State {
         words,
         pending,
@@ -149,52 +150,75 @@ fn hasher(body: &mut In) -> Option<State> {
     real.then_some(state)
 }
 
-fn session(mut body: In, tables: &Tables, o: &mut Out) {
-    let mut held = hasher(&mut body).map(|s| (Sha1::from_state(&s), s));
-    while !body.0.is_empty() {
-        let call = body.number(1);
-        let slot = if call != 2 { body.word() } else { 0 };
-        let bytes = if call == 1 { body.bytes() } else { &[] };
-        let masks = if call != 2 { body.masks() } else { vec![] };
-        let (out_len, _) = if call == 4 { (body.word(), body.number(1)) } else { (20, 0) };
-        let asked = held.as_mut().filter(|(_, s)| match call {
+/// One call of a session, as the request has it.
+struct Call<'a> {
+    what: u64,
+    slot: u32,
+    bytes: &'a [u8],
+    masks: Vec<u32>,
+    out_len: u32,
+}
+
+impl<'a> Call<'a> {
+    fn read(body: &mut In<'a>) -> Call<'a> {
+        let what = body.number(1);
+        let slot = if what != 2 { body.word() } else { 0 };
+        let bytes = if what == 1 { body.bytes() } else { &[] };
+        let masks = if what != 2 { body.masks() } else { vec![] };
+        let (out_len, _) = if what == 4 { (body.word(), body.number(1)) } else { (20, 0) };
+        Call { what, slot, bytes, masks, out_len }
+    }
+    /// Whether the Rust can be asked: the paper has no refusal for it.
+    fn suits(&self, s: &State, tables: &Tables) -> bool {
+        let more = self.bytes.len() as u64;
+        match self.what {
             1 => {
-                let so_far = s.blocks * 64 + s.fill;
-                bytes.len() as u64 <= (1 << 61) - 1 - so_far
-                    && tables.suit(s, slot, &masks, (s.fill + bytes.len() as u64) / 64)
+                more <= (1 << 61) - 1 - (s.blocks * 64 + s.fill)
+                    && tables.suit(s, self.slot, &self.masks, (s.fill + more) / 64)
             }
             2 => true,
-            _ => out_len == 20 && tables.suit(s, slot, &masks, if s.fill < 56 { 1 } else { 2 }),
-        });
-        let Some((sha1, s)) = asked else {
-            o.zeros(1 + 4 + 16 + 116 + 4);
-            continue;
-        };
-        let (mut out, mut said, mut wrong) = (Vec::new(), 0, 0);
-        let lend = || Sha1::lend(slot, &masks);
-        lend();
-        match call {
-            1 => Update::update(sha1, bytes),
+            _ => self.out_len == 20 && tables.suit(s, self.slot, &self.masks, if s.fill < 56 { 1 } else { 2 }),
+        }
+    }
+    fn lend(&self) {
+        Sha1::lend(self.slot, &self.masks)
+    }
+    /// The verdict's number, the output, and a number that no side refuses by where the Rust contradicts itself.
+    fn make(&self, sha1: &mut Sha1) -> (u64, Vec<u8>, u64) {
+        self.lend();
+        match self.what {
+            1 => Update::update(sha1, self.bytes),
             2 => Reset::reset(sha1),
             3 => {
                 let r = sha1.clone().try_finalize();
-                said = verdict(&r);
-                out = r.hash().to_vec();
+                return (verdict(&r), r.hash().to_vec(), 0);
             }
             4 => {
                 // This one gives no verdict, so a copy is asked for it.
                 let r = sha1.clone().try_finalize();
-                said = verdict(&r);
-                lend();
+                self.lend();
                 let mut digest = [0; 20];
                 FixedOutputReset::finalize_into_reset(sha1, &mut digest);
                 // 99 if the two ways to finish differ.
-                wrong = if &digest == r.hash() { 0 } else { 99 };
-                out = digest.to_vec();
+                let wrong = if &digest == r.hash() { 0 } else { 99 };
+                return (verdict(&r), digest.to_vec(), wrong);
             }
             _ => panic!("no such call"),
         }
-        wrong += astray(s.detect && s.lent && call != 2, masks.len());
+        (0, vec![], 0)
+    }
+}
+
+fn session(mut body: In, tables: &Tables, o: &mut Out) {
+    let mut held = hasher(&mut body).map(|s| (Sha1::from_state(&s), s));
+    while !body.0.is_empty() {
+        let call = Call::read(&mut body);
+        let Some((sha1, s)) = held.as_mut().filter(|(_, s)| call.suits(s, tables)) else {
+            o.zeros(1 + 4 + 16 + 116 + 4);
+            continue;
+        };
+        let (said, out, wrong) = call.make(sha1);
+        let wrong = wrong + astray(s.detect && s.lent && call.what != 2, call.masks.len());
         *s = sha1.state(s);
         o.known(wrong);
         o.put(said, 8);

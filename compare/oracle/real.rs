@@ -77,6 +77,11 @@ fn session(flags: u64, message: &[u8], masks: &[u32]) -> Vec<u8> {
     b
 }
 
+fn drawn(seed: &mut u64) -> usize {
+    *seed = seed.wrapping_mul(6364136223846793005).wrapping_add(1442695040888963407);
+    ((*seed ^ *seed >> 29) >> 32) as usize
+}
+
 fn main() {
     let args: Vec<String> = std::env::args().collect();
     let [requests, table, seed, count, files @ ..] = &args[1..] else {
@@ -90,10 +95,7 @@ fn main() {
 
     let files: Vec<Vec<u8>> = files.iter().map(|f| std::fs::read(f).expect("cannot read a file")).collect();
     let (mut seed, count): (u64, usize) = (seed.parse().unwrap(), count.parse().unwrap());
-    let mut chance = || {
-        seed = seed.wrapping_mul(6364136223846793005).wrapping_add(1442695040888963407);
-        ((seed ^ seed >> 29) >> 32) as usize
-    };
+    let mut chance = || drawn(&mut seed);
     let (mut compared, mut differ, mut marked, mut selecting) = (0, 0, 0, 0);
     for i in 0..count {
         // A published file first in one message of sixteen, then bytes by chance.

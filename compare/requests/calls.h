@@ -136,8 +136,7 @@ static void add_pair(const uint32_t *words, const uint8_t *block, const uint32_t
 {
     uint32_t after[5];
     uint64_t answer[4];
-    memcpy(after, words, 20);
-    purserumble_one_block(after, 5, block, 64, record, RECORD, 0xffffffff, 0, 1, answer, 4);
+    purserumble_one_block(words, 5, block, 64, record, RECORD, 0xffffffff, 0, 1, after, 5, answer, 4);
     if (!answer[0] || pair_count == 16) return;
     struct pair *p = &pairs[pair_count++];
     memcpy(p->words, words, 20);
@@ -156,8 +155,7 @@ static void read_published(const char *data)
         for (size_t at = 0; at + 64 <= published[i].left; at += 64, memcpy(words, after, 20)) {
             uint64_t answer[4];
             const uint8_t *block = published[i].at + at;
-            memcpy(after, words, 20);
-            purserumble_one_block(after, 5, block, 64, pool[REAL].w, pool[REAL].len, 0xffffffff, 0, 1, answer, 4);
+            purserumble_one_block(words, 5, block, 64, pool[REAL].w, pool[REAL].len, 0xffffffff, 0, 1, after, 5, answer, 4);
             if (!answer[0]) continue;
             const uint32_t *record = pool[REAL].w + RECORD * answer[1];
             add_pair(words, block, record);
@@ -179,7 +177,7 @@ static void begin(const uint32_t words[5], const uint8_t *pending, uint64_t fill
     held.fill = fill;
     held.blocks = blocks;
     held.flags = flags;
-    held.malformed = fill > 63 || blocks >> 55 || (mark && !(flags & DETECT));
+    held.malformed = fill > 63 || blocks >> 55 || mark > (flags & DETECT) || flags > 15;
     for (uint64_t i = fill; i < 64; i++) held.malformed |= pending[i];
     put_words(&o, words, 5);
     put_raw(&o, pending, 64);

@@ -89,7 +89,13 @@ static void fills(void)
                 finish_and_reset(CONTROL, &all, 0, 20, 0);
                 end();
             }
-    /* Not well formed: a byte beyond the fill, at every place; and the other ways, one by one. */
+}
+
+/* Not well formed: a byte beyond the fill, at every place; and the other ways, one by one. */
+static void forms(void)
+{
+    uint32_t words[5];
+    uint8_t pending[64];
     for (int fill = 0; fill <= 64; fill++)
         for (int at = fill; at < 64 || (fill == 64 && at == 64); at++) {
             some_words(words);
@@ -179,11 +185,20 @@ static void orders(void)
     }
 }
 
+static const uint32_t ones[5] = { 1, 1, 1, 1, 1 };
+
+/* A table checked, and lent with a block. */
+static void try_table(const uint32_t *w, size_t len)
+{
+    send_words(BAD, w, len);
+    table_check(BAD);
+    send_block(ones, BAD, all, 0, pattern, 64);
+}
+
 /* Three good records, with each word damaged in turn, and each length of their words; then the largest tables. */
-static void tables(void)
+static void damaged_tables(void)
 {
     static struct table t;
-    uint32_t words[5] = { 1, 1, 1, 1, 1 };
     seed = 5;
     t.len = 3 * RECORD;
     for (int i = 0; i < 3; i++) some_record(t.w + RECORD * i);
@@ -191,33 +206,38 @@ static void tables(void)
         for (int turn = 0; turn < 4; turn++) {
             uint32_t kept = t.w[i];
             t.w[i] ^= (uint32_t[]){ 1, 0x80000000, 0x20, some_bit() }[turn];
-            send_words(BAD, t.w, t.len);
-            table_check(BAD);
-            send_block(words, BAD, all, 0, pattern, 64);
+            try_table(t.w, t.len);
             t.w[i] = kept;
         }
     for (size_t n = 0; n <= t.len; n++) {
-        send_words(BAD, t.w, n);
-        table_check(BAD);
-        send_block(words, BAD, all, 0, pattern, 64);
-        send_block(words, BAD, all, 0, pattern, 63);
+        try_table(t.w, n);
+        send_block(ones, BAD, all, 0, pattern, 63);
     }
     for (size_t n = MOST - 1; n <= MOST + 2; n++)
         for (int off = -1; off < 2; off++) {
             for (int i = 0; i < MOST + 4; i++) control(t.w + RECORD * i, i % 32, i % 2 ? 58 : 65);
-            send_words(BAD, t.w, n * RECORD + off);
-            table_check(BAD);
-            send_block(words, BAD, all, 0, pattern, 64);
+            try_table(t.w, n * RECORD + off);
         }
-    /* Each mask number, each single bit; and each pair of faults in the order of their places. */
+}
+
+/* Each mask number and test step, with single bits of the mask. */
+static void record_heads(void)
+{
+    static struct table t;
     for (int number = 0; number < 34; number++)
         for (int step = 56; step < 68; step++) {
             control(t.w, number, step);
             send_words(BAD, t.w, RECORD);
             table_check(BAD);
-            for (int bit = 0; bit < 32; bit += 1 + step % 5) send_block(words, BAD, (uint32_t)1 << bit, 0, pattern, 64);
-            send_block(words, BAD, none, REDUCED, pattern, 64);
+            for (int bit = 0; bit < 32; bit += 1 + step % 5) send_block(ones, BAD, (uint32_t)1 << bit, 0, pattern, 64);
+            send_block(ones, BAD, none, REDUCED, pattern, 64);
         }
+}
+
+/* Each pair of faults, in the order of their places. */
+static void pairs_of_faults(void)
+{
+    static struct table t;
     for (int a = 0; a < 4; a++)
         for (int b = 0; b < 4; b++)
             for (int at = 0; at < 3; at++) {
@@ -230,14 +250,12 @@ static void tables(void)
                     if (fault[i] == 3) r[i][2 + 40] = 1;
                 }
                 if (a == b) r[0][1] = 0, r[0][20] = 1;
-                send_words(BAD, t.w, 3 * RECORD);
-                table_check(BAD);
-                send_block(words, BAD, all, 0, pattern, 64);
+                try_table(t.w, 3 * RECORD);
             }
 }
 
 /* The published files with the crate's own table: all modes, several masks, several cuts. */
-static void published_files(const char *data)
+static void published_files(void)
 {
     for (int i = 0; i < 3; i++)
         for (int bit = -2; bit < 32; bit++) {
@@ -260,7 +278,11 @@ static void published_files(const char *data)
             finish(REAL, &all, 0);
             end();
         }
-    /* NIST's short messages; their published digests are looked up by second/digests.py. */
+}
+
+/* NIST's short messages; their published digests are looked up by second/digests.py. */
+static void nist_messages(const char *data)
+{
     char name[4096], line[4096];
     snprintf(name, sizeof name, "%s/SHA1ShortMsg.rsp", data);
     FILE *f = fopen(name, "r");
@@ -278,6 +300,10 @@ static void published_files(const char *data)
         in_all_modes(REAL, bytes, bits / 8, &all);
     }
     fclose(f);
+}
+
+static void schoolbook_messages(void)
+{
     in_all_modes(CONTROL, (const uint8_t *)"hello world", 11, &all);
     in_all_modes(CONTROL, (const uint8_t *)"hello world", 11, &none);
     in_all_modes(REAL, (const uint8_t *)"abc", 3, &all);
@@ -321,7 +347,7 @@ static void sheets(void)
                         put_bytes(&o, sheet, len);
                         put_bytes(&o, code, code_len);
                         if (kind == COMPARE) {
-                            put(&o, (len + i + code_len) % 3, 4);
+                            put(&o, 1 + (len + i + code_len) % 3, 4);
                             put_raw(&o, digest, 20);
                         }
                         write_record(file, kind, &o);
@@ -336,10 +362,15 @@ static void fixed_requests(const char *data)
     short_messages();
     lengths();
     fills();
+    forms();
     longest();
     orders();
-    tables();
-    published_files(data);
+    damaged_tables();
+    record_heads();
+    pairs_of_faults();
+    published_files();
+    nist_messages(data);
+    schoolbook_messages();
     marks_stay();
     sheets();
 }

@@ -152,12 +152,15 @@ static void some_hasher(int flags)
     if (one_in(4)) blocks = ((uint64_t)1 << 55) - 1 - below(3);
     if (one_in(3)) { /* not well formed, in one way or two */
         for (int n = 1 + one_in(4); n > 0; n--)
-            switch (below(5)) {
+            switch (below(7)) {
             case 0: fill = one_in(2) ? 64 : far >> below(57); if (fill < 64) fill = 64; break;
             case 1: blocks = ((uint64_t)1 << 55) + (one_in(2) ? 0 : far >> 1); break;
             case 2: pending[63] = 1; if (fill == 64) fill = 63; break;
             case 3: if (fill < 64) pending[fill] = 1 + below(255); break;
-            default: mark = 1; flags &= ~DETECT; break;
+            case 4: mark = 1; flags &= ~DETECT; break;
+            /* and as no hasher may lie in memory */
+            case 5: mark = 2 + below(9); break;
+            default: flags |= 16 << below(8); break;
             }
     }
     begin(words, pending, fill, blocks, mark, flags);
@@ -234,7 +237,7 @@ static void some_sheet(int kind)
     put_bytes(&o, sheet, len);
     put_bytes(&o, code, code_len);
     if (kind == COMPARE) {
-        put(&o, below(3), 4);
+        put(&o, one_in(40) ? 4 * below(1000) : 1 + below(3), 4); /* a few are none of the three verdicts */
         put_raw(&o, digest, 20);
     }
     write_record(file, kind, &o);

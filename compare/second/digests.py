@@ -57,7 +57,7 @@ def finishes(body, answer):
         back += 21 + 116 + 4 + n
         if not known or refusal:
             continue
-        if call >= 3 and message is not None and verdict != 1:
+        if call >= 3 and message is not None and verdict != 2:
             yield message, out
         if call == 1 and message is not None:
             message += piece
@@ -80,7 +80,7 @@ def main():
         elif kind == 4:
             n, = struct.unpack_from(">I", body, 4)
             known, refusal, _, verdict = struct.unpack_from(">BIQQ", answer, 0)
-            plain = [(body[8:8 + n], answer[21:])] if known and not refusal and verdict != 1 else []
+            plain = [(body[8:8 + n], answer[21:])] if known and not refusal and verdict != 2 else []
         else:
             continue
         for message, digest in plain:

@@ -246,20 +246,32 @@ static uint64_t finished(struct hasher h, uint8_t *digest, const uint32_t *table
     int blocks = padding(&h, tail);
     for (int i = 0; i < blocks; i++) absorb(&h, tail + 64 * i, table, table_len, &masks);
     for (int i = 0; i < 20; i++) digest[i] = h.words[i / 4] >> (24 - 8 * (i % 4));
-    return !h.mark ? 0 : mitigates(&h) ? 1 : 2;
+    return !h.mark ? 1 : mitigates(&h) ? 2 : 3;
 }
 
 /* ---- The calls ---- */
 
-uint32_t purserumble_one_block(uint32_t *words, size_t five, const uint8_t *block, size_t block_len,
-    const uint32_t *table, size_t table_len, uint32_t mask, bool mitigate, bool reduced, uint64_t *answer, size_t four)
+enum { BROKEN = 255 };
+
+/* Whether a hasher lies in memory as the header says. */
+static int hasher_fits(size_t five, size_t sixty_four, const uint64_t *state, size_t four)
 {
-    (void)five, (void)four;
+    return five == 5 && sixty_four == 64 && four == 4 && state[2] <= 1 && state[3] <= 15;
+}
+
+uint32_t purserumble_one_block(const uint32_t *words, size_t five, const uint8_t *block, size_t block_len,
+    const uint32_t *table, size_t table_len, uint32_t mask, bool mitigate, bool reduced,
+    uint32_t *after, size_t five_after, uint64_t *answer, size_t four)
+{
+    if (five != 5 || five_after != 5 || four != 4) return BROKEN;
     uint64_t place = 0;
     uint32_t refusal = block_len != 64 ? 8 : table_fault(table, table_len, &place);
     struct found found = { 0, 0, 0 };
-    if (refusal) memset(words, 0, 20);
-    else found = checked_block(words, block, table, table_len, mask, mitigate, reduced);
+    memset(after, 0, 20);
+    if (!refusal) {
+        memcpy(after, words, 20);
+        found = checked_block(after, block, table, table_len, mask, mitigate, reduced);
+    }
     answer[0] = found.mark;
     answer[1] = found.place;
     answer[2] = found.tried;
@@ -271,7 +283,7 @@ uint32_t purserumble_update(uint32_t *words, size_t five, uint8_t *pending, size
     uint64_t *state, size_t four, const uint8_t *bytes, size_t bytes_len, const uint32_t *table, size_t table_len,
     const uint32_t *masks, size_t masks_len, uint64_t *answer, size_t two)
 {
-    (void)five, (void)sixty_four, (void)four, (void)two;
+    if (!hasher_fits(five, sixty_four, state, four) || two != 2) return BROKEN;
     struct hasher h = hasher_of(words, pending, state);
     uint32_t refusal;
     answer[0] = answer[1] = 0;
@@ -287,7 +299,7 @@ uint32_t purserumble_update(uint32_t *words, size_t five, uint8_t *pending, size
 uint32_t purserumble_reset(uint32_t *words, size_t five, uint8_t *pending, size_t sixty_four,
     uint64_t *state, size_t four, uint64_t *answer, size_t two)
 {
-    (void)five, (void)sixty_four, (void)four, (void)two;
+    if (!hasher_fits(five, sixty_four, state, four) || two != 2) return BROKEN;
     struct hasher h = hasher_of(words, pending, state);
     answer[0] = answer[1] = 0;
     if (!well_formed(&h)) return 1;
@@ -296,11 +308,11 @@ uint32_t purserumble_reset(uint32_t *words, size_t five, uint8_t *pending, size_
     return 0;
 }
 
-uint32_t purserumble_finish(uint32_t *words, size_t five, uint8_t *pending, size_t sixty_four,
-    uint64_t *state, size_t four, uint8_t *digest, size_t twenty, const uint32_t *table, size_t table_len,
+uint32_t purserumble_finish(const uint32_t *words, size_t five, const uint8_t *pending, size_t sixty_four,
+    const uint64_t *state, size_t four, uint8_t *digest, size_t twenty, const uint32_t *table, size_t table_len,
     const uint32_t *masks, size_t masks_len, uint64_t *answer, size_t two)
 {
-    (void)five, (void)sixty_four, (void)four, (void)two;
+    if (!hasher_fits(five, sixty_four, state, four) || twenty != 20 || two != 2) return BROKEN;
     struct hasher h = hasher_of(words, pending, state);
     answer[0] = 0;
     uint32_t refusal = finish_refusal(&h, 20, table, table_len, masks_len, &answer[1]);
@@ -313,7 +325,7 @@ uint32_t purserumble_finish_and_reset(uint32_t *words, size_t five, uint8_t *pen
     uint64_t *state, size_t four, uint8_t *out, size_t out_len, const uint32_t *table, size_t table_len,
     const uint32_t *masks, size_t masks_len, uint64_t *answer, size_t two)
 {
-    (void)five, (void)sixty_four, (void)four, (void)two;
+    if (!hasher_fits(five, sixty_four, state, four) || two != 2) return BROKEN;
     struct hasher h = hasher_of(words, pending, state);
     answer[0] = 0;
     uint32_t refusal = finish_refusal(&h, out_len, table, table_len, masks_len, &answer[1]);
@@ -327,7 +339,7 @@ uint32_t purserumble_finish_and_reset(uint32_t *words, size_t five, uint8_t *pen
 uint32_t purserumble_one_shot(const uint8_t *bytes, size_t bytes_len, uint8_t *digest, size_t twenty,
     const uint32_t *table, size_t table_len, const uint32_t *masks, size_t masks_len, uint64_t *answer, size_t two)
 {
-    (void)two;
+    if (twenty != 20 || two != 2) return BROKEN;
     /* The defaults: detection, mitigation and masks on, reduced-round mode off. */
     struct hasher h = fresh(1 | 2 | 4);
     uint32_t refusal;
@@ -344,7 +356,7 @@ uint32_t purserumble_one_shot(const uint8_t *bytes, size_t bytes_len, uint8_t *d
 
 uint32_t purserumble_table_fault(const uint32_t *table, size_t table_len, uint64_t *answer, size_t two)
 {
-    (void)two;
+    if (two != 2) return BROKEN;
     answer[0] = 0;
     return table_fault(table, table_len, &answer[1]);
 }
@@ -367,7 +379,7 @@ static size_t found_at(const uint8_t *sheet, size_t sheet_len, const uint8_t *co
 uint32_t purserumble_lookup(const uint8_t *sheet, size_t sheet_len, const uint8_t *code, size_t code_len,
     uint64_t *part, size_t two)
 {
-    (void)two;
+    if (two != 2) return BROKEN;
     uint32_t refusal = sheet_refusal(sheet_len, code_len);
     part[0] = refusal ? sheet_len : found_at(sheet, sheet_len, code);
     part[1] = part[0] == sheet_len ? 0 : 20;
@@ -377,11 +389,11 @@ uint32_t purserumble_lookup(const uint8_t *sheet, size_t sheet_len, const uint8_
 uint32_t purserumble_compare(const uint8_t *sheet, size_t sheet_len, const uint8_t *code, size_t code_len,
     uint32_t verdict, const uint8_t *digest, size_t twenty, uint64_t *answer, size_t two)
 {
-    (void)verdict, (void)two;
+    if (verdict < 1 || verdict > 3 || twenty != 20 || two != 2) return BROKEN;
     uint32_t refusal = sheet_refusal(sheet_len, code_len);
     answer[0] = answer[1] = 0;
     if (refusal) return refusal;
     size_t at = found_at(sheet, sheet_len, code);
-    answer[0] = at == sheet_len ? 2 : memcmp(sheet + at, digest, twenty) == 0 ? 0 : 1;
+    answer[0] = at == sheet_len ? 3 : memcmp(sheet + at, digest, twenty) == 0 ? 1 : 2;
     return 0;
 }

@@ -1,0 +1,121 @@
+/* Breaks the agreement of proved.h in each way, one at a time: a call must return 255 and change no byte. Kept, it must not
+ * return 255. Linked with the static library it asks the proved code, linked with second/second.c the second program.
+ */
+#include "proved.h"
+#include <stdio.h>
+#include <string.h>
+
+/* Everything that a call is lent, and the lengths that it is told. Memory is there for one element more. */
+static struct lent {
+    uint32_t words[6], after[6], table[82], mask[1], verdict;
+    uint64_t state[5], answer[5];
+    uint8_t pending[65], bytes[1], digest[21], block[64], sheet[32], code[12];
+    size_t five, five_after, sixty_four, four, twenty, two, four_answers;
+} m;
+
+static void fresh(void)
+{
+    memset(&m, 0, sizeof m);
+    m.table[1] = 58; /* the control record */
+    m.state[3] = 1;
+    m.verdict = 1;
+    m.five = m.five_after = 5;
+    m.sixty_four = 64;
+    m.four = m.four_answers = 4;
+    m.twenty = 20;
+    m.two = 2;
+}
+
+#define HASHER m.words, m.five, m.pending, m.sixty_four, m.state, m.four
+#define TABLE m.table, 82
+#define NO_MASKS m.mask, 0
+#define ANSWER m.answer, m.two
+
+static uint32_t one_block(void)
+{
+    return purserumble_one_block(m.words, m.five, m.block, 64, TABLE, 1, 1, 0, m.after, m.five_after, m.answer, m.four_answers);
+}
+static uint32_t update(void) { return purserumble_update(HASHER, m.bytes, 1, TABLE, NO_MASKS, ANSWER); }
+static uint32_t reset(void) { return purserumble_reset(HASHER, ANSWER); }
+static uint32_t finish(void) { return purserumble_finish(HASHER, m.digest, m.twenty, TABLE, NO_MASKS, ANSWER); }
+static uint32_t finish_and_reset(void)
+{
+    return purserumble_finish_and_reset(HASHER, m.digest, 20, TABLE, NO_MASKS, ANSWER);
+}
+static uint32_t one_shot(void) { return purserumble_one_shot(m.bytes, 1, m.digest, m.twenty, TABLE, m.mask, 1, ANSWER); }
+static uint32_t table_fault(void) { return purserumble_table_fault(TABLE, ANSWER); }
+static uint32_t lookup(void) { return purserumble_lookup(m.sheet, 32, m.code, 12, ANSWER); }
+static uint32_t compare(void)
+{
+    return purserumble_compare(m.sheet, 32, m.code, 12, m.verdict, m.digest, m.twenty, ANSWER);
+}
+
+static long tried, wrong;
+
+/* One call after one change; the change alone is there afterwards. */
+static void broken(const char *name, uint32_t (*call)(void))
+{
+    struct lent before = m;
+    uint32_t said = call();
+    tried++;
+    if (said == 255 && memcmp(&before, &m, sizeof m) == 0) return;
+    wrong++;
+    printf("  %s said %u where the agreement was broken%s\n", name, said, said == 255 ? ", and wrote" : "");
+}
+
+static void lengths(const char *name, uint32_t (*call)(void), size_t *length)
+{
+    fresh();
+    for (size_t right = *length, n = 0; n <= right + 1; n++) {
+        *length = n;
+        if (n != right) broken(name, call);
+    }
+}
+
+static void kept(const char *name, uint32_t (*call)(void))
+{
+    fresh();
+    uint32_t said = call();
+    tried++;
+    if (said == 0) return;
+    wrong++;
+    printf("  %s said %u where it was kept\n", name, said);
+}
+
+static void hasher(const char *name, uint32_t (*call)(void))
+{
+    lengths(name, call, &m.five);
+    lengths(name, call, &m.sixty_four);
+    lengths(name, call, &m.four);
+    for (int bit = 0; bit < 64; bit++) {
+        fresh();
+        m.state[2] = bit ? (uint64_t)1 << bit : 3;
+        broken(name, call);
+        fresh();
+        m.state[3] |= (uint64_t)1 << bit;
+        if (bit > 3) broken(name, call);
+    }
+}
+
+int main(void)
+{
+    static const struct { const char *name; uint32_t (*call)(void); int hasher, digest, two; } calls[] = {
+        { "one_block", one_block, 0, 0, 0 }, { "update", update, 1, 0, 1 }, { "reset", reset, 1, 0, 1 },
+        { "finish", finish, 1, 1, 1 }, { "finish_and_reset", finish_and_reset, 1, 0, 1 }, { "one_shot", one_shot, 0, 1, 1 },
+        { "table_fault", table_fault, 0, 0, 1 }, { "lookup", lookup, 0, 0, 1 }, { "compare", compare, 0, 1, 1 } };
+    for (size_t i = 0; i < sizeof calls / sizeof *calls; i++) {
+        kept(calls[i].name, calls[i].call);
+        if (calls[i].hasher) hasher(calls[i].name, calls[i].call);
+        if (calls[i].digest) lengths(calls[i].name, calls[i].call, &m.twenty);
+        if (calls[i].two) lengths(calls[i].name, calls[i].call, &m.two);
+    }
+    lengths("one_block", one_block, &m.five);
+    lengths("one_block", one_block, &m.five_after);
+    lengths("one_block", one_block, &m.four_answers);
+    for (uint32_t v = 4; v; v *= 2) { fresh(); m.verdict = v; broken("compare", compare); }
+    fresh();
+    m.verdict = 0;
+    broken("compare", compare);
+    printf("%ld comparisons, %ld differences\n", tried, wrong);
+    return wrong != 0;
+}

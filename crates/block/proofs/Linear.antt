@@ -1,6 +1,5 @@
--- What the layers above know of a schedule: its elements are words, and the sibling's schedule is the schedule of the sibling's
--- sixteen words, since the rule is linear. Assumes nothing.
-use mathlib.Core.Bool.{Bool, true, false}
+-- The sixteen words of a block of bytes are words, and the sibling's schedule is the schedule of the sibling's sixteen words,
+-- since the rule is linear. Assumes nothing.
 use mathlib.Core.Logic.{⊎-elim}
 use mathlib.Core.Path.{_≡_, refl, sym, ap, ap₂, _∙_}
 use mathlib.Core.List.{List, [], _∷_, _++_}
@@ -11,14 +10,14 @@ use lib.Bits.{bitXor}
 use lib.Dec.{ltb}
 use lib.ListN.{length, getD}
 use lib.Pow.{pow-pos}
-use Rattle.word.specs.Choice.{pick}
 use Rattle.word.specs.Lists.{listOf, xorWords, AllWords}
 use Rattle.word.specs.Rule.{ruleAt}
+use Rattle.word.proofs.Tests.{of-either}
 use Rattle.word.proofs.Xor.{rule-lt, rule-xor}
 use Rattle.block.specs.Schedule.{wordAt, wordsOf, scheduled, scheduleOf}
 use Rattle.block.specs.Sibling.{siblingSchedule}
 use Rattle.block.proofs.Fill.{list-at}
-use Rattle.block.proofs.Growth.{word, schedule-list, word-given, word-ruled, schedule-ruled}
+use Rattle.block.proofs.Growth.{word, schedule-list, schedule-at, word-given, word-ruled, schedule-ruled}
 
 -- one word more
 words-snoc : (w : List ℕ) (x : ℕ) → AllWords w → x < 2 ^ 32 → AllWords (w ++ (x ∷ []))
@@ -37,30 +36,30 @@ pub words-words : (block : List ℕ) → ((i : ℕ) → getD block i 0 < 256) �
 words-words block h =
     list-words (wordAt block) 16 (λ i. omega (arith, h (4 * i), h (4 * i + 1), h (4 * i + 2), h (4 * i + 3)))
 
-pick-lt : (b : Bool) (x y k : ℕ) → x < k → y < k → pick b x y < k
-pick-lt true x y k hx hy = hx
-pick-lt false x y k hx hy = hy
-
 -- every element of a schedule of words
-pub schedule-words : (m : List ℕ) → AllWords m → (n : ℕ) → AllWords (scheduled m n)
+schedule-words : (m : List ℕ) → AllWords m → (n : ℕ) → AllWords (scheduled m n)
 unfolding scheduled
 schedule-words m h zero = λ i. pow-pos 32
 schedule-words m h (suc n) =
     let w = scheduled m n in
     let g = schedule-words m h n in
     let t = length w in
-    words-snoc w _ g (pick-lt (ltb t 16) _ _ _ (h t) (rule-lt _ _ _ _ (g (t - 3)) (g (t - 8)) (g (t - 14)) (g (t - 16))))
+    words-snoc w _ g (of-either (λ (x : ℕ). x < 2 ^ 32) (ltb t 16) _ _ (h t) (rule-lt _ _ _ _ (g (t - 3)) (g (t - 8)) (g (t - 14)) (g (t - 16))))
 
+-- where the difference words obey the rule, the sibling has the schedule of a block
 module _ (m dm : List ℕ) (hm : AllWords m) (hd : AllWords dm) (obeys : (t : ℕ) → 16 ≤ t → t < 80 → getD dm t 0 ≡ ruleAt dm t) where
-  abbrev w : List ℕ
-  w = scheduleOf m
-
   -- word t of the sibling's schedule
   abbrev f : ℕ → ℕ
-  f t = bitXor (getD w t 0) (getD dm t 0)
+  f t = bitXor (getD (scheduleOf m) t 0) (getD dm t 0)
 
+  -- the sibling's sixteen words
   abbrev v : List ℕ
-  v = xorWords 16 w dm
+  v = xorWords 16 m dm
+
+  first : (t : ℕ) → t < 16 → word v t ≡ f t
+  first t l =
+      word-given v t l ∙ list-at _ 16 t l
+      ∙ ap (λ (x : ℕ). bitXor x (getD dm t 0)) (sym (schedule-at m 80 t (omega arith) ∙ word-given m t l))
 
   -- the rule on the sibling's words so far gives the next one
   next : (t : ℕ) → 16 ≤ t → t < 80 → ruleAt (listOf f t) t ≡ f t
@@ -77,13 +76,10 @@ module _ (m dm : List ℕ) (hm : AllWords m) (hd : AllWords dm) (obeys : (t : �
   so-far (suc n) h =
       let e = so-far n (omega arith) in
       let x : f n ≡ word v n =
-      ⊎-elim (λ z. sym (word-given v n (omega arith) ∙ list-at f 16 n (omega arith)))
+      ⊎-elim (λ z. sym (first n (omega arith)))
       (λ p. sym (word-ruled v n (omega arith) ∙ ap (λ (l : List ℕ). ruleAt l n) (sym e) ∙ next n (omega arith) (omega arith)))
       (eq-zero-or-pos (n - 15)) in
       ap₂ (λ (l : List ℕ) (y : ℕ). l ++ (y ∷ [])) (e ∙ schedule-list v n) x ∙ sym (schedule-list v (suc n))
 
--- where the difference words obey the rule, the sibling has the schedule of a block
-pub sibling-schedule : (m dm : List ℕ) → length m ≡ 16 → AllWords m → length dm ≡ 80 → AllWords dm
-    → ((t : ℕ) → 16 ≤ t → t < 80 → getD dm t 0 ≡ ruleAt dm t)
-    → siblingSchedule (scheduleOf m) dm ≡ scheduleOf (xorWords 16 (scheduleOf m) dm)
-sibling-schedule m dm _ hm _ hd obeys = so-far m dm hm hd obeys 80 (omega arith)
+  pub sibling-schedule : siblingSchedule (scheduleOf m) dm ≡ scheduleOf (xorWords 16 m dm)
+  sibling-schedule = so-far 80 (omega arith)

@@ -4,26 +4,21 @@ use mathlib.Core.Bool.{Bool, true, false, _||_, or-false}
 use mathlib.Core.List.{List}
 use Prim.Native.Nat.{ℕ, _+_, _-_, _/_, _%_, _≤_}
 use native.Mathlib.Omega.{arith}
-use borrow.Author.Tests.{le-leb}
 use lib.ListN.{length, replicate, length-append, length-replicate}
-use lib.Seq.{drop-append-seam}
 use Rattle.word.specs.Choice.{pick}
-use Rattle.refusal.specs.Refusal.{isNothing}
 use Rattle.stream.specs.Fold.{lookedAt, folded}
 use Rattle.stream.specs.declared.Chain.{Chain}
 use Rattle.stream.specs.declared.Flags.{Flags}
-use Rattle.hasher.specs.Hasher.{mostBlocks, wellFormed, taken, streamOf, chainOf, updateRefusal, absorbed, updated}
+use Rattle.hasher.specs.Hasher.{wellFormed, taken, streamOf, chainOf, updateRefusal, absorbed, updated}
 use Rattle.hasher.specs.declared.Hasher.{Hasher}
-use Rattle.hasher.proofs.Zeros.{zeros-are}
+use Rattle.hasher.proofs.Formed.{Formed, formed, moved-formed}
+use Rattle.hasher.proofs.Moves.{restOf, rest-length, stream-long, chainAfter, absorbed-is}
+use Rattle.hasher.proofs.Taken.{of-refusal, Taken, refusal-is, update-taken}
 use Rattle.claims.specs.Sound.{Sized}
-use Rattle.claims.specs.Marked.{markedBy, againBy, atBlock}
+use Rattle.claims.specs.Marked.{markedBy, againBy}
+use Rattle.claims.proofs.Unmarked.{atBlock}
 use Rattle.claims.proofs.Blocks.{run-mark}
 use Rattle.claims.proofs.Below.{anyBelow, none-below}
-use Rattle.finish.proofs.Padded.{restOf, rest-length}
-use Rattle.claims.proofs.Updates.{stream-length, absorbed-is}
-use Rattle.refusal.proofs.Chains.{nothing-is}
-use Rattle.hasher.proofs.Formed.{Formed, formed}
-use Rattle.claims.proofs.Calls.{Taken, refusal-is, update-taken}
 
 -- the mark after a call: what it was, or with detection on that of one of the call's blocks
 pub mark-after : (f : Flags) (table : List ℕ) (c : Chain) (xs masks : List ℕ)
@@ -59,7 +54,7 @@ module _ (h : Hasher) (bytes table masks : List ℕ) where
 
   pub fill-after : length (h .pending) ≡ 64 → h .fill ≤ 63 → absorbed h bytes table masks .fill ≡ (h .fill + length bytes) % 64
   fill-after long below =
-      rw (absorbed-is h bytes table masks) (rest-length (streamOf h bytes) ∙ ap (λ (n : ℕ). n % 64) (stream-length h bytes long below))
+      rw (absorbed-is h bytes table masks) (rest-length (streamOf h bytes) ∙ ap (λ (n : ℕ). n % 64) (stream-long (h .pending) bytes (h .fill) long below))
 
   module _ (long : length (h .pending) ≡ 64) (a : Taken h bytes table masks) where
     sure : Formed h
@@ -67,31 +62,22 @@ module _ (h : Hasher) (bytes table masks : List ℕ) where
 
     pub taken-after : taken (absorbed h bytes table masks) ≡ taken h + length bytes
     taken-after =
-        let l = stream-length h bytes long (sure .fill-le) in
+        let l = stream-long (h .pending) bytes (h .fill) long (sure .fill-le) in
         rw (absorbed-is h bytes table masks) (omega (arith, rest-length (streamOf h bytes)))
 
     pub formed-after : wellFormed (absorbed h bytes table masks) ≡ true
-    unfolding wellFormed
     formed-after =
         let s = streamOf h bytes in
-        let l = stream-length h bytes long (sure .fill-le) in
+        let l = stream-long (h .pending) bytes (h .fill) long (sure .fill-le) in
         let fits = a .fits in
-        rw (
-          absorbed-is h bytes table masks,
-          le-leb (length (restOf s)) 63 (omega (arith, rest-length s)),
-          le-leb (h .blocks + length s / 64) mostBlocks (omega arith),
-          drop-append-seam (restOf s) (replicate (64 - length (restOf s)) 0),
-          zeros-are (64 - length (restOf s)),
-        )
-        (mark-stays-ok (h .flags .detect) (h .mark) _ (mark-kept (h .flags) table (chainOf h) s (lookedAt (h .flags) masks)) (sure .mark-ok))
+        rw (absorbed-is h bytes table masks)
+        (moved-formed h (chainAfter h bytes table masks) (restOf s) (length s / 64) (omega (arith, rest-length s)) (omega arith)
+        (mark-stays-ok (h .flags .detect) (h .mark) _ (mark-kept (h .flags) table (chainOf h) s (lookedAt (h .flags) masks)) (sure .mark-ok)))
 
 -- what holds of the hasher, and of the one after an update that is not refused, holds of the one that an update hands back
-either-way : (P : Hasher → Type 0) (h : Hasher) (bytes table masks : List ℕ) (b : Bool) → isNothing (updateRefusal h bytes table masks) ≡ b
-    → P h → (Taken h bytes table masks → P (absorbed h bytes table masks)) → P (pick b (absorbed h bytes table masks) h)
-either-way P h bytes table masks true e p q = q (update-taken h bytes table masks (refusal-is h bytes table masks ∙ nothing-is _ e))
-either-way P h bytes table masks false e p q = p
-
 pub of-updated : (P : Hasher → Type 0) (h : Hasher) (bytes table masks : List ℕ)
     → P h → (Taken h bytes table masks → P (absorbed h bytes table masks)) → P (updated h bytes table masks .hasher)
 unfolding updated
-of-updated P h bytes table masks p q = either-way P h bytes table masks (isNothing (updateRefusal h bytes table masks)) refl p q
+of-updated P h bytes table masks p q =
+    of-refusal P (updateRefusal h bytes table masks) (absorbed h bytes table masks) h
+    (λ e. q (update-taken h bytes table masks (refusal-is h bytes table masks ∙ e))) (λ e. p)

@@ -15,8 +15,7 @@ use Rattle.block.specs.Compress.{overSchedule, compressOf}
 use Rattle.stream.specs.Fips.{be64, zerosFor, padded, initial}
 use Rattle.stream.specs.Fold.{allBits}
 use Rattle.claims.specs.Sibling.{AllBytes}
-use Rattle.claims.specs.Marked.{hashMarked}
-use Rattle.claims.specs.Message.{blockAt}
+use Rattle.claims.specs.Marked.{hashMarked, blockAt}
 
 -- a sum that wraps is a word
 compress-words : (h : Regs) (block : List ℕ) → Words (compressOf h block)

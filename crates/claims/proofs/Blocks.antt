@@ -12,7 +12,8 @@ use Rattle.detect.specs.Detect.{answerOf}
 use Rattle.stream.specs.Fold.{allBits, blockOf, checkedOf, plainOf, run}
 use Rattle.stream.specs.declared.Chain.{Chain}
 use Rattle.stream.specs.declared.Flags.{Flags}
-use Rattle.claims.specs.Marked.{markedBy, againBy, compressMarked, hashMarked, atBlock}
+use Rattle.claims.specs.Marked.{markedBy, againBy, compressMarked, hashMarked}
+use Rattle.claims.proofs.Unmarked.{atBlock}
 use Rattle.claims.proofs.Below.{anyBelow}
 use Rattle.stream.proofs.Folds.{run-zero, run-suc, run-add}
 

@@ -8,7 +8,7 @@ use Rattle.hasher.specs.Hasher.{resetOf}
 use Rattle.hasher.specs.declared.Hasher.{Hasher}
 use Rattle.verdict.specs.Verdict.{digestSize}
 use Rattle.finish.specs.Finish.{finishRefusal, finished, closed, writtenOut}
-use Rattle.claims.proofs.Calls.{finish-closing}
+use Rattle.finish.proofs.Closing.{finish-closing}
 use Rattle.claims.proofs.Kept.{reset-restores}
 
 module _ (h : Hasher) (out table masks : List ℕ) (size : length out ≡ digestSize) where
@@ -25,4 +25,4 @@ module _ (h : Hasher) (out table masks : List ℕ) (size : length out ≡ digest
   -- And the hasher is that of a reset.
   pub close-resets : finishRefusal h digestSize table masks ≡ Nothing → closed h (length out) table masks .hasher ≡ resetOf h .hasher
   unfolding closed
-  close-resets e = rw (size, e, reset-restores h (finish-closing h table masks e .well))
+  close-resets e = rw (size, e, reset-restores h (finish-closing h digestSize table masks e .well))

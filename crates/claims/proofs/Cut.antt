@@ -10,18 +10,18 @@ use Rattle.stream.specs.Flags.{usesMasks}
 use Rattle.stream.specs.declared.Flags.{Flags}
 use Rattle.hasher.specs.Hasher.{wellFormed, updateRefusal, updated}
 use Rattle.hasher.specs.declared.Hasher.{Hasher}
+use Rattle.hasher.proofs.Taken.{update-taken, taken-update}
 use Rattle.claims.specs.Sound.{Sized}
 use Rattle.claims.specs.Pieces.{Piece, bytesOf, lentMasks, piecewise, hashed, blockMasks, NoneRefused, Counted}
-use Rattle.claims.proofs.Calls.{update-taken, taken-update}
 use Rattle.claims.proofs.Empty.{absorb-none}
 use Rattle.claims.proofs.Piecewise.{pieces-taken, pieces-absorbed, Fitting, pieces-pass}
 use Rattle.claims.proofs.Whole.{hashed-is}
 
 module _ (h : Hasher) (size : Sized h) (table : List ℕ) where
   -- Updates piece by piece, none refused, give the same hasher and refusal as one update with everything joined.
-  pub cut : (p : Piece) (ps : List Piece) → piecewise h table (p ∷ ps) .refusal ≡ Nothing
+  pub cut-joined : (p : Piece) (ps : List Piece) → piecewise h table (p ∷ ps) .refusal ≡ Nothing
       → piecewise h table (p ∷ ps) ≡ updated h (bytesOf (p ∷ ps)) table (lentMasks (p ∷ ps))
-  cut p ps e =
+  cut-joined p ps e =
       let a = pieces-taken p ps h table size e in
       pieces-absorbed (p ∷ ps) h table size (a .well) e ∙ sym (taken-update h (bytesOf (p ∷ ps)) table (lentMasks (p ∷ ps)) a)
 
@@ -32,7 +32,7 @@ module _ (h : Hasher) (size : Sized h) (table : List ℕ) where
   cut-anywhere p ps counts e =
       let a = update-taken h (bytesOf (p ∷ ps)) table (lentMasks (p ∷ ps)) e in
       let r : Fitting h table (p ∷ ps) = record { sound = record { size = size; well = a .well }; good = a .good; counts = counts } in
-      cut p ps (pieces-pass (p ∷ ps) h table r (a .fits))
+      cut-joined p ps (pieces-pass (p ∷ ps) h table r (a .fits))
 
   -- No piece at all is as an update of no bytes, and that changes nothing.
   pub cut-none : wellFormed h ≡ true → (masks : List ℕ) → updated h [] table masks .hasher ≡ piecewise h table [] .hasher

@@ -9,11 +9,10 @@ use lib.Seq.{length-take-le}
 use Rattle.stream.specs.Fold.{folded}
 use Rattle.hasher.specs.Hasher.{allZero, wellFormed, zeroed, absorbed}
 use Rattle.hasher.specs.declared.Hasher.{Hasher}
-use Rattle.hasher.proofs.Moves.{five-is}
+use Rattle.hasher.proofs.Moves.{five-is, absorbed-is}
 use Rattle.hasher.proofs.Zeros.{zero-all}
 use Rattle.claims.specs.Sound.{Sized}
 use Rattle.stream.proofs.Folds.{run-zero}
-use Rattle.claims.proofs.Updates.{absorbed-is}
 use Rattle.hasher.proofs.Formed.{formed}
 
 -- the pending bytes with the zeros behind them

@@ -5,11 +5,12 @@ use mathlib.Core.List.{List}
 use Prim.Native.Nat.{ℕ, _≤_}
 use native.Mathlib.Omega.{arith}
 use lib.ListN.{length}
-use Rattle.refusal.specs.Refusal.{isNothing}
 use Rattle.refusal.specs.declared.Refusal.{Refusal}
 use Rattle.refusal.specs.declared.Refusal.the-variants.{Nothing}
+use Rattle.verdict.specs.Verdict.{digestSize}
 use Rattle.verdict.specs.declared.Verdict.the-variants.{Ok}
-use Rattle.table.specs.Table.{tableFault}
+use Rattle.table.specs.Good.{GoodTable}
+use Rattle.table.proofs.Good.{accepted}
 use Rattle.word.proofs.Tests.{of-either}
 use Rattle.stream.specs.Fips.{sha1}
 use Rattle.stream.specs.Flags.{usesMasks}
@@ -21,16 +22,15 @@ use Rattle.finish.specs.declared.Finished.{Finished}
 use Rattle.finish.specs.declared.Outcome.{Outcome}
 use Rattle.finish.specs.declared.Outcome.the-variants.{Done}
 use Rattle.claims.specs.Pieces.{Piece, bytesOf, taking, hashed, NoneRefused, InTurn}
-use Rattle.refusal.proofs.Chains.{nothing-is}
-use Rattle.claims.proofs.Calls.{closing-finish}
-use Rattle.claims.proofs.Kept.{finish-keeps, fresh-sound, pieces-sound}
+use Rattle.finish.proofs.Closing.{closing-finish}
+use Rattle.claims.proofs.Kept.{finish-keeps, fresh-sound, pieces-flags, pieces-sound}
 use Rattle.claims.proofs.Piecewise.{Fitting, pieces-pass}
-use Rattle.claims.proofs.Whole.{flags-is, fill-is}
+use Rattle.claims.proofs.Whole.{fill-is}
 use Rattle.claims.proofs.Fips.{fips-undetected}
 use Rattle.claims.proofs.Verdicts.{ok-exactly}
 
-table-good : (f : Flags) (table : List ℕ) → isNothing (tableFault table) ≡ true → tableRefusal f table ≡ Nothing
-table-good f table good = of-either (λ (r : Refusal). r ≡ Nothing) (f .detect) _ Nothing (nothing-is _ good) refl
+table-good : (f : Flags) (table : List ℕ) → GoodTable table → tableRefusal f table ≡ Nothing
+table-good f table good = of-either (λ (r : Refusal). r ≡ Nothing) (f .detect) _ Nothing (accepted table .1 good) refl
 
 unused : (f : Flags) → f .masks ≡ All → usesMasks f ≡ true → ⊥
 unused f off u = false≢true (sym (and-false (f .detect)) ∙ (rw off at u))
@@ -45,13 +45,14 @@ module _ (f : Flags) (table : List ℕ) (ps : List Piece) (last : List ℕ) (sho
   none-refused good turn =
       let r : Fitting (freshOf f) table ps = record { sound = fresh-sound f; good = good; counts = λ u. turn u .updates } in
       let e = pieces-pass ps (freshOf f) table r (omega arith) in
-      let flags = flags-is f table ps e in
+      let flags = pieces-flags (freshOf f) table ps in
       record {
         updates = e;
         finish =
-            closing-finish (taking f table ps .hasher) table last
+            closing-finish (taking f table ps .hasher) digestSize table last
             (record {
               well = pieces-sound (freshOf f) table ps (fresh-sound f) .well;
+              sized = refl;
               counts = λ u. rw (fill-is f table ps e) (turn (sym (ap usesMasks flags) ∙ u) .finish);
               good = rw flags good;
             });
@@ -62,16 +63,16 @@ module _ (f : Flags) (table : List ℕ) (ps : List Piece) (last : List ℕ) (sho
   none-refused-off off = none-refused (rw off) (λ u. absurd (false≢true (rw off at u)))
 
   -- With detection on none is, with a good table and each block's mask in its turn.
-  pub none-refused-on : isNothing (tableFault table) ≡ true → InTurn ps last → NoneRefused f table ps last
+  pub none-refused-on : GoodTable table → InTurn ps last → NoneRefused f table ps last
   none-refused-on good turn = none-refused (table-good f table good) (λ u. turn)
 
   -- With masks off none is, with a good table.
-  pub none-refused-all : f .masks ≡ All → isNothing (tableFault table) ≡ true → NoneRefused f table ps last
+  pub none-refused-all : f .masks ≡ All → GoodTable table → NoneRefused f table ps last
   none-refused-all off good = none-refused (table-good f table good) (λ u. absurd (unused f off u))
 
   -- With detection off the verdict is ok and the digest FIPS 180-4's, for every message of at most 2^61-1 bytes under every cut, whatever is lent.
-  pub every : f .detect ≡ false
+  pub every-message : f .detect ≡ false
       → hashed f table ps last ≡ record { outcome = Done Ok; digest = sha1 (bytesOf ps); hasher = taking f table ps .hasher }
-  every off =
+  every-message off =
       let ok = none-refused-off off in
       same-finished (hashed f table ps last) (ok-exactly f table ps last ok .1 (λ i l. rw off)) (fips-undetected f table ps last ok off) (finish-keeps _ table last)

@@ -8,15 +8,9 @@ use Rattle.stream.specs.Fips.{padded, initial, digestOf, sha1}
 use Rattle.stream.specs.declared.Flags.{Flags}
 use Rattle.finish.specs.declared.Finished.{Finished}
 use Rattle.claims.specs.Pieces.{Piece, bytesOf, hashed, blockMasks, NoneRefused}
-use Rattle.claims.specs.Marked.{markedBy, againBy, blocksIn, sha1Marked, atBlock, markedAt, NoneMarked}
-use Rattle.claims.proofs.Unmarked.{hash-plain, hash-same}
+use Rattle.claims.specs.Marked.{markedBy, againBy, blocksIn, sha1Marked, markedAt, NoneMarked}
+use Rattle.claims.proofs.Unmarked.{atBlock, hash-plain, hash-same}
 use Rattle.claims.proofs.Whole.{hashed-is}
-
-and-off : (a b : Bool) → b ≡ false → (a && b) ≡ false
-and-off a b e = rw e (and-false a)
-
-and-on : (a b : Bool) → b ≡ true → (a && b) ≡ a
-and-on a b e = rw e (and-true a)
 
 module _ (f : Flags) (table : List ℕ) (ps : List Piece) (last : List ℕ) (ok : NoneRefused f table ps last) where
   digest-is : hashed f table ps last .digest ≡ sha1Marked (againBy f table) (bytesOf ps) (blockMasks f ps last)
@@ -34,7 +28,10 @@ module _ (f : Flags) (table : List ℕ) (ps : List Piece) (last : List ℕ) (ok 
 
   -- With mitigation off it is, whatever is marked.
   pub fips-unmitigated : f .mitigate ≡ false → hashed f table ps last .digest ≡ sha1 (bytesOf ps)
-  fips-unmitigated off = once (λ i l. and-off (markedAt f table (bytesOf ps) (blockMasks f ps last) i) (f .mitigate) off)
+  fips-unmitigated off =
+      once (λ i l.
+      let marked = markedAt f table (bytesOf ps) (blockMasks f ps last) i in
+      ap (λ (b : Bool). marked && b) off ∙ and-false marked)
 
   -- Where no block is marked it is.
   pub fips-unmarked : NoneMarked f table (bytesOf ps) (blockMasks f ps last) → hashed f table ps last .digest ≡ sha1 (bytesOf ps)
@@ -44,6 +41,6 @@ module _ (f : Flags) (table : List ℕ) (ps : List Piece) (last : List ℕ) (ok 
   pub marked-twice-more : f .mitigate ≡ true → hashed f table ps last .digest ≡ sha1Marked (markedBy f table) (bytesOf ps) (blockMasks f ps last)
   marked-twice-more on =
       let again : (h : Regs) (block : List ℕ) (mask : ℕ) → againBy f table h block mask ≡ markedBy f table h block mask =
-      λ h block mask. and-on (markedBy f table h block mask) (f .mitigate) on
+      λ h block mask. rw on (and-true _)
       in
       digest-is ∙ ap digestOf (hash-same (againBy f table) (markedBy f table) again _ initial (padded (bytesOf ps)) (blockMasks f ps last))

@@ -29,13 +29,9 @@ zeros-if [] h = refl
 zeros-if (x ∷ xs) h = rw (eq-eqb x 0 (h 0)) (zeros-if xs (λ i. h (suc i)))
 
 -- the test of the mark
-mark-on : (mark detect : Bool) → pick mark detect true ≡ true → mark ≡ true → detect ≡ true
-mark-on true detect e m = e
-mark-on false detect e m = absurd (false≢true m)
-
-mark-if : (mark detect : Bool) → (mark ≡ true → detect ≡ true) → pick mark detect true ≡ true
-mark-if true detect h = h refl
-mark-if false detect h = refl
+mark-says : (mark detect : Bool) → (pick mark detect true ≡ true) ↔ (mark ≡ true → detect ≡ true)
+mark-says true detect = (λ e m. e, λ h. h refl)
+mark-says false detect = (λ e m. absurd (false≢true m), λ h. refl)
 
 pub well-formed : (h : Hasher) → (wellFormed h ≡ true) ↔ WellFormed h
 unfolding wellFormed
@@ -47,14 +43,15 @@ well-formed h = (
         blocks-most = f .blocks-le;
         zeros = λ i l.
             let k : h .fill + (i - h .fill) ≡ i = omega arith in
-            ap (λ (j : ℕ). getD (h .pending) j 0) (sym k) ∙ sym (getD-drop (h .fill) (h .pending) (i - h .fill) 0) ∙ zeros-at (drop (h .fill) (h .pending)) (f .zeros) (i - h .fill);
-        detects = mark-on (h .mark) (h .flags .detect) (f .mark-ok);
+            ap (λ (j : ℕ). getD (h .pending) j 0) (sym k) ∙ sym (getD-drop (h .fill) (h .pending) (i - h .fill) 0)
+            ∙ zeros-at (drop (h .fill) (h .pending)) (f .zeros) (i - h .fill);
+        detects = mark-says (h .mark) (h .flags .detect) .0 (f .mark-ok);
       },
   λ w.
       rw (
         le-leb (h .fill) 63 (w .fill-most),
         le-leb (h .blocks) mostBlocks (w .blocks-most),
         zeros-if (drop (h .fill) (h .pending)) (λ i. getD-drop (h .fill) (h .pending) i 0 ∙ w .zeros (h .fill + i) (omega arith)),
-        mark-if (h .mark) (h .flags .detect) (w .detects),
+        mark-says (h .mark) (h .flags .detect) .1 (w .detects),
       ),
 )

@@ -1,5 +1,5 @@
 -- Demand 2, what stays: reset restores all but the flags, a mark stays until then, and every hasher that a call hands back is well formed. Assumes nothing.
-use mathlib.Core.Path.{_≡_, refl}
+use mathlib.Core.Path.{_≡_, refl, _∙_}
 use mathlib.Core.Bool.{true}
 use mathlib.Core.List.{List}
 use Prim.Native.Nat.{ℕ}
@@ -10,10 +10,10 @@ use Rattle.stream.specs.Fold.{lookedAt}
 use Rattle.stream.specs.declared.Flags.{Flags}
 use Rattle.hasher.specs.Hasher.{allZero, wellFormed, chainOf, streamOf, updated, freshOf, resetOf}
 use Rattle.hasher.specs.declared.Hasher.{Hasher}
+use Rattle.hasher.proofs.Moves.{absorbed-is}
 use Rattle.finish.specs.Finish.{finishRefusal, finished, closed}
 use Rattle.claims.specs.Sound.{Sound}
 use Rattle.claims.specs.Pieces.{Piece, piecewise}
-use Rattle.claims.proofs.Updates.{absorbed-is}
 use Rattle.claims.proofs.After.{mark-after, flags-after, sized-after, formed-after, of-updated}
 use Rattle.claims.proofs.Piecewise.{of-pieces}
 
@@ -63,7 +63,12 @@ module _ (h : Hasher) (s : Sound h) where
   unfolding closed
   close-sound size table masks = of-either Sound (isNothing (finishRefusal h size table masks)) _ h (fresh-sound (h .flags)) s
 
--- Any updates one after the other keep a mark.
+-- Any updates one after the other keep the flags.
+pub pieces-flags : (h : Hasher) (table : List ℕ) (ps : List Piece) → piecewise h table ps .hasher .flags ≡ h .flags
+pieces-flags h table ps =
+    of-pieces (λ (g : Hasher). g .flags ≡ h .flags) (λ g e bytes t masks. update-flags g bytes t masks ∙ e) ps h table refl
+
+-- They keep a mark.
 pub pieces-mark : (h : Hasher) (table : List ℕ) (ps : List Piece) → h .mark ≡ true → piecewise h table ps .hasher .mark ≡ true
 pieces-mark h table ps e = of-pieces (λ (g : Hasher). g .mark ≡ true) (λ g k bytes t masks. update-mark g bytes t masks k) ps h table e
 

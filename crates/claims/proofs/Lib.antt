@@ -23,7 +23,6 @@ pub mod Below
 pub mod Blocks
 pub mod Unmarked
 pub mod Updates
-pub mod Calls
 pub mod After
 pub mod Empty
 pub mod Piecewise

@@ -4,17 +4,13 @@ use mathlib.Core.Bool.{Bool, true, false, and-false, false≢true}
 use mathlib.Core.List.{List}
 use Prim.Native.Nat.{ℕ, _%_, _≤_, _<_}
 use native.Mathlib.Nat.{div-eq-of-lt}
-use native.Mathlib.Omega.{arith}
 use lib.Bits.{bitXor, xor-zero-r}
 use lib.Dec.{eqb}
 use lib.ListN.{length, replicate, getD-replicate}
 use lib.Pow.{pow-pos}
-use Rattle.word.specs.Choice.{pick}
 use Rattle.word.proofs.Words.{list-same}
-use Rattle.refusal.specs.Refusal.{numberOf, isNothing}
-use Rattle.refusal.specs.declared.Refusal.{Refusal}
-use Rattle.refusal.specs.declared.Refusal.the-variants.{Nothing, Size}
-use Rattle.refusal.proofs.Chains.{nothing-is}
+use Rattle.refusal.specs.Refusal.{isNothing}
+use Rattle.refusal.specs.declared.Refusal.the-variants.{Nothing}
 use Rattle.step.specs.Step.{Words, regsOf}
 use Rattle.step.specs.declared.Regs.{Regs}
 use Rattle.step.proofs.Runs.{undos-steps}
@@ -24,12 +20,13 @@ use Rattle.block.specs.Compress.{overSchedule, compressOf}
 use Rattle.block.specs.Sibling.{siblingSchedule, recompressed}
 use Rattle.block.proofs.Growth.{word, schedule-list, schedule-at}
 use Rattle.table.specs.Limits.{dmWords}
-use Rattle.table.specs.Table.{recordsIn, maskNumberAt, dmAt, tableFault}
+use Rattle.table.specs.Table.{recordsIn, maskNumberAt, dmAt}
 use Rattle.detect.specs.Detect.{hasBit, selects, stepsBeforeAt, siblingEnds, marks, foundIn, answerOf, oneBlockRefusal, refusedBlock, answeredBlock, oneBlockOf}
 use Rattle.detect.specs.declared.Mode.{Mode}
 use Rattle.detect.specs.declared.OneBlock.{OneBlock}
 use Rattle.detect.specs.Ended.{Ended}
 use Rattle.detect.proofs.Ended.{found-ended, some-marked, none-tried}
+use Rattle.hasher.proofs.Taken.{of-refusal}
 
 module _ (mode : Mode) (table : List ℕ) (h : Regs) (block : List ℕ) (mask : ℕ) where
   -- the first selected record that marks ends the search; tried counts the selected ones up to it, or all
@@ -43,9 +40,9 @@ module _ (mode : Mode) (table : List ℕ) (h : Regs) (block : List ℕ) (mask : 
   words-unmarked e = rw e
 
   -- and so they are with mitigation off
-  pub words-raw : mode .mitigate ≡ false → answerOf mode table h block mask .words ≡ compressOf h block
+  pub words-unmitigated : mode .mitigate ≡ false → answerOf mode table h block mask .words ≡ compressOf h block
   unfolding answerOf compressOf
-  words-raw e = rw (e, and-false (foundIn (mode .reduced) table h (scheduleOf (wordsOf block)) mask .mark))
+  words-unmitigated e = rw (e, and-false (foundIn (mode .reduced) table h (scheduleOf (wordsOf block)) mask .mark))
 
   -- with mitigation on a marked block is compressed twice more
   pub words-mitigated : mode .mitigate ≡ true → answerOf mode table h block mask .found .mark ≡ true
@@ -63,31 +60,15 @@ unfolding answerOf foundIn
 mask-zero mode table h block =
     none-tried (selects 0 table) (marks (mode .reduced) h (scheduleOf (wordsOf block)) table) (λ j. no-bits (maskNumberAt table j)) (recordsIn (length table)) 0 0
 
--- an entry that refuses nothing gives the answer, and has found nothing wrong with the table
-module _ (five block table : List ℕ) (mask : ℕ) (mode : Mode) where
-  abbrev answer : OneBlock
-  answer = answeredBlock (answerOf mode table (regsOf five) block mask)
-
-  by-refusal : (b : Bool) (r : Refusal) → isNothing r ≡ b → pick b answer (refusedBlock r) .refusal ≡ Nothing
-      → (pick b answer (refusedBlock r) ≡ answer) × (r ≡ Nothing)
-  by-refusal true r k e = (refl, nothing-is r k)
-  by-refusal false r k e = absurd (false≢true (sym k ∙ ap isNothing e))
-
-  unrefused : oneBlockOf five block table mask mode .refusal ≡ Nothing
-      → (oneBlockOf five block table mask mode ≡ answer) × (oneBlockRefusal (length block) table ≡ Nothing)
-  unfolding oneBlockOf
-  unrefused e = by-refusal (isNothing (oneBlockRefusal (length block) table)) (oneBlockRefusal (length block) table) refl e
-
-  pub block-answered : oneBlockOf five block table mask mode .refusal ≡ Nothing
-      → oneBlockOf five block table mask mode ≡ answeredBlock (answerOf mode table (regsOf five) block mask)
-  block-answered e = unrefused e .0
-
-  pub block-table-good : oneBlockOf five block table mask mode .refusal ≡ Nothing → tableFault table ≡ Nothing
-  block-table-good e = sized-table (eqb (length block) 64) (unrefused e .1)
-    where
-      sized-table : (b : Bool) → pick b (tableFault table) Size ≡ Nothing → tableFault table ≡ Nothing
-      sized-table true k = k
-      sized-table false k = absurd (omega (arith, ap numberOf k))
+-- an entry that refuses nothing gives the answer
+pub block-answered : (five block table : List ℕ) (mask : ℕ) (mode : Mode) → oneBlockOf five block table mask mode .refusal ≡ Nothing
+    → oneBlockOf five block table mask mode ≡ answeredBlock (answerOf mode table (regsOf five) block mask)
+unfolding oneBlockOf
+block-answered five block table mask mode =
+    let r = oneBlockRefusal (length block) table in
+    let answer = answeredBlock (answerOf mode table (regsOf five) block mask) in
+    of-refusal (λ (o : OneBlock). o .refusal ≡ Nothing → o ≡ answer) r answer (refusedBlock r) (λ n e. refl)
+    (λ k e. absurd (false≢true (sym k ∙ ap isNothing e)))
 
 -- the control record's sibling is the block itself
 own-sibling : (m : List ℕ) → siblingSchedule (scheduleOf m) (replicate dmWords 0) ≡ scheduleOf m
@@ -96,10 +77,6 @@ own-sibling m =
     ∙ sym (schedule-list m 80)
 
 module _ (reduced : Bool) (table : List ℕ) (h : Regs) (m : List ℕ) (i : ℕ) (zeros : dmAt table i ≡ replicate dmWords 0) (hw : Words h) where
-  back : siblingEnds h (scheduleOf m) table i .start ≡ h
-  unfolding siblingEnds recompressed
-  back = rw (zeros, own-sibling m) (undos-steps (scheduleOf m) (stepsBeforeAt table i) 0 h hw)
-
   same-out : siblingEnds h (scheduleOf m) table i .out ≡ overSchedule h (scheduleOf m)
   unfolding siblingEnds recompressed
   same-out = rw (zeros, own-sibling m, undos-steps (scheduleOf m) (stepsBeforeAt table i) 0 h hw)
@@ -109,8 +86,8 @@ module _ (reduced : Bool) (table : List ℕ) (h : Regs) (m : List ℕ) (i : ℕ)
   control-marks = rw (same-out, same-self (overSchedule h (scheduleOf m)))
 
 -- a block that selects the control record is marked, by it or an earlier record, in any mode
-pub control : (mode : Mode) (table : List ℕ) (h : Regs) (block : List ℕ) (mask i : ℕ) → dmAt table i ≡ replicate dmWords 0 → Words h
+pub control-marked : (mode : Mode) (table : List ℕ) (h : Regs) (block : List ℕ) (mask i : ℕ) → dmAt table i ≡ replicate dmWords 0 → Words h
     → i < recordsIn (length table) → selects mask table i ≡ true
     → (answerOf mode table h block mask .found .mark ≡ true) × (answerOf mode table h block mask .found .place ≤ i)
-control mode table h block mask i zeros hw l s =
+control-marked mode table h block mask i zeros hw l s =
     some-marked _ _ (place-and-tried mode table h block mask) i l s (control-marks (mode .reduced) table h (wordsOf block) i zeros hw)

@@ -1,13 +1,13 @@
 -- The padding is the standard's, and makes as many blocks as masks are asked for. Assumes nothing.
 use mathlib.Core.Path.{_≡_}
 use mathlib.Core.List.{List}
-use Prim.Native.Nat.{ℕ, _+_, _/_, _%_, _≤_}
+use Prim.Native.Nat.{ℕ, _+_, _%_, _≤_}
 use native.Mathlib.Omega.{arith}
 use lib.ListN.{length}
 use Rattle.stream.specs.Fips.{zerosFor, padded}
-use Rattle.finish.specs.Finish.{tailBlocks}
 use Rattle.finish.proofs.Padded.{padded-blocks}
 use Rattle.claims.specs.Marked.{blocksIn}
+use Rattle.claims.specs.Refusals.{blocksOf}
 
 -- After the byte 80 and the zeros, 8 bytes are left to a whole block.
 pub zeros-right : (n : ℕ) → (n + 1 + zerosFor n) % 64 ≡ 56
@@ -22,5 +22,5 @@ pub padded-whole : (msg : List ℕ) → length (padded msg) % 64 ≡ 0
 padded-whole msg = let e = padded-blocks msg in omega arith
 
 -- They are the message's own and the one or two that a finish makes.
-pub blocks-counted : (msg : List ℕ) → blocksIn msg ≡ length msg / 64 + tailBlocks (length msg % 64)
+pub blocks-counted : (msg : List ℕ) → blocksIn msg ≡ blocksOf (length msg)
 blocks-counted msg = let e = padded-blocks msg in omega arith

@@ -1,6 +1,6 @@
 -- Updates one after the other, where none is refused. Assumes nothing.
 use mathlib.Core.Path.{_≡_, refl, sym, ap, _∙_}
-use mathlib.Core.Bool.{Bool, true, false}
+use mathlib.Core.Bool.{true}
 use mathlib.Core.List.{List, [], _∷_, _++_, append-nil}
 use Prim.Native.Nat.{ℕ, _+_, _≤_}
 use native.Mathlib.Omega.{arith}
@@ -13,12 +13,12 @@ use Rattle.stream.specs.Flags.{usesMasks}
 use Rattle.hasher.specs.Hasher.{mostBytes, wellFormed, taken, tableRefusal, absorbed, updated}
 use Rattle.hasher.specs.declared.Hasher.{Hasher}
 use Rattle.hasher.specs.declared.Updated.{Updated}
+use Rattle.hasher.proofs.Formed.{formed}
+use Rattle.hasher.proofs.Moves.{stream-long}
+use Rattle.hasher.proofs.Taken.{of-refusal, Taken, update-taken, taken-update}
 use Rattle.claims.specs.Sound.{Sized, Sound}
 use Rattle.claims.specs.Pieces.{Piece, bytesOf, lentMasks, piecewise, Counted}
-use Rattle.claims.proofs.Updates.{stream-length, absorb-cut}
-use Rattle.refusal.proofs.Chains.{nothing-is}
-use Rattle.hasher.proofs.Formed.{formed}
-use Rattle.claims.proofs.Calls.{Taken, update-taken, taken-update}
+use Rattle.claims.proofs.Updates.{absorb-cut}
 use Rattle.claims.proofs.After.{flags-after, sized-after, fill-after, taken-after, formed-after}
 use Rattle.claims.proofs.Empty.{absorb-none}
 
@@ -32,17 +32,13 @@ pub piecewise-cons : (h : Hasher) (table : List ℕ) (p : Piece) (ps : List Piec
 unfolding piecewise
 piecewise-cons h table p ps = refl
 
--- a first update that is refused ends the updates
-first-is : (b : Bool) (u v : Updated) → isNothing (u .refusal) ≡ b → pick b v u .refusal ≡ Nothing → u .refusal ≡ Nothing
-first-is true u v k e = nothing-is (u .refusal) k
-first-is false u v k e = e
-
 module _ (h : Hasher) (table : List ℕ) (p : Piece) (ps : List Piece) where
   pub first-taken : piecewise h table (p ∷ ps) .refusal ≡ Nothing → Taken h (p .bytes) table (p .masks)
   first-taken e =
       let u = updated h (p .bytes) table (p .masks) in
       update-taken h (p .bytes) table (p .masks)
-      (first-is (isNothing (u .refusal)) u (piecewise (u .hasher) table ps) refl (rw (piecewise-cons h table p ps) at e))
+      (of-refusal (λ (v : Updated). v .refusal ≡ Nothing → u .refusal ≡ Nothing) (u .refusal) (piecewise (u .hasher) table ps) u (λ k l. k) (λ k l. l)
+      (rw (piecewise-cons h table p ps) at e))
 
   pub piecewise-next : Taken h (p .bytes) table (p .masks)
       → piecewise h table (p ∷ ps) ≡ piecewise (absorbed h (p .bytes) table (p .masks)) table ps
@@ -80,7 +76,7 @@ pieces-absorbed [] h table size well e = rw (piecewise-nil h table, absorb-none 
 pieces-absorbed (p ∷ ps) h table size well e =
     let a = first-taken h table p ps e in
     let n = piecewise-next h table p ps a in
-    let l = stream-length h (p .bytes) (size .pending-size) (formed h well .fill-le) in
+    let l = stream-long (h .pending) (p .bytes) (h .fill) (size .pending-size) (formed h well .fill-le) in
     n
     ∙ pieces-absorbed ps _ table (sized-after h (p .bytes) table (p .masks)) (formed-after h (p .bytes) table (p .masks) (size .pending-size) a) (rw n at e)
     ∙ rw (absorb-cut h (p .bytes) (bytesOf ps) table (p .masks) (lentMasks ps) (λ u. rw l (a .counts u)))

@@ -21,31 +21,35 @@ use Rattle.table.specs.Table.{tableFault}
 use Rattle.table.specs.Good.{GoodTable}
 use Rattle.table.proofs.Faults.{of-fault}
 use Rattle.table.proofs.Good.{accepted}
-use Rattle.detect.specs.Detect.{oneBlockRefusal, oneBlockOf, refusedBlock, answeredBlock}
-use Rattle.detect.specs.declared.Answer.{Answer}
+use Rattle.detect.specs.Detect.{oneBlockRefusal, oneBlockOf, refusedBlock}
 use Rattle.detect.specs.declared.Mode.{Mode}
+use Rattle.detect.specs.declared.OneBlock.{OneBlock}
 use Rattle.stream.specs.Flags.{usesMasks}
 use Rattle.stream.specs.declared.Flags.{Flags}
 use Rattle.hasher.specs.Hasher.{mostBytes, wellFormed, taken, blocksFilled, masksWrong, tableRefusal, updateRefusal, updated, freshOf, resetOf}
 use Rattle.hasher.specs.declared.Hasher.{Hasher}
 use Rattle.hasher.specs.declared.Updated.{Updated}
+use Rattle.hasher.proofs.Taken.{of-refusal, masks-right}
 use Rattle.verdict.specs.Verdict.{digestSize}
 use Rattle.finish.specs.Finish.{tailBlocks, finishRefusal, outcomeRefusal, outcomeNumber, outcomePlace, finished, closed, writtenOut, oneShotRefusal, digested}
 use Rattle.finish.specs.declared.Outcome.{Outcome}
 use Rattle.finish.specs.declared.Outcome.the-variants.{Done, Refused}
+use Rattle.lent.specs.InPlace.{InPlace}
 use Rattle.claims.specs.Refusals.{WellFormed, OfTable, Miscounted, WellCounted, blocksOf, oneOf}
-use Rattle.claims.proofs.Calls.{counted, count}
 use Rattle.claims.proofs.Formed.{well-formed}
 
 -- the tests, and what they say
+well-says : (h : Hasher) → Says (wellFormed h) (WellFormed h) (WellFormed h → ⊥)
+well-says h = decided (wellFormed h) (WellFormed h) (well-formed h)
+
 form-says : (h : Hasher) → Says (not (wellFormed h)) (WellFormed h → ⊥) (WellFormed h)
-form-says h = negated (decided (wellFormed h) (WellFormed h) (well-formed h))
+form-says h = negated (well-says h)
 
 masks-say : (f : Flags) (k n : ℕ) → Says (masksWrong f k n) (Miscounted f k n) (WellCounted f k n)
 masks-say f k n =
     record {
       on = (λ e. let b = both-true (usesMasks f) _ e in (b .0, eqb-false k n (not-true (eqb k n) (b .1))), λ m. rw (m .0, ne-eqb k n (m .1)));
-      off = (counted (usesMasks f) k n, count (usesMasks f) k n);
+      off = masks-right f k n;
     }
 
 -- a refusal whose number is one of those listed
@@ -118,44 +122,42 @@ module _ (f : Flags) (k blocks : ℕ) (table : List ℕ) where
   ending-is : WellCounted f k blocks → f .detect ≡ true → ending ≡ tableFault table
   ending-is c d = later-is (masks-say f k blocks) MaskCount _ c ∙ inside-is (itself (f .detect)) (tableFault table) Nothing d
 
--- 1, a test of the call's own with a number above 6, and the ending: the chain of an update and of a finish-and-reset
-module _ (h : Hasher) (b : Bool) (P Q : Type 0) (says : Says b P Q) (own : Refusal) (above : 6 < numberOf own) (k blocks : ℕ) (table : List ℕ) where
-  abbrev chain : Refusal
-  chain = pick (not (wellFormed h)) HasherForm (pick b own (ending (h .flags) k blocks table))
-
-  chain-0 : (numberOf chain ≡ 0) ↔ (WellFormed h × (Q × (WellCounted (h .flags) k blocks × (h .flags .detect ≡ true → GoodTable table))))
-  chain-0 =
-      later-exactly (form-says h) HasherForm _ 0 _ (λ e. omega arith)
-      (later-exactly says own _ 0 _ (λ e. omega arith) (ending-0 (h .flags) k blocks table))
-
-  chain-1 : (numberOf chain ≡ 1) ↔ (WellFormed h → ⊥)
-  chain-1 =
-      first-exactly (form-says h) HasherForm _ 1 refl
-      (never b own _ 1 (λ e. omega arith) (ending-away (h .flags) k blocks table 1 refl))
-
-  chain-own : (numberOf (ending (h .flags) k blocks table) ≡ numberOf own → ⊥) → (numberOf chain ≡ numberOf own) ↔ (WellFormed h × P)
-  chain-own other =
-      later-exactly (form-says h) HasherForm _ (numberOf own) P (λ e. omega arith) (first-exactly says own _ (numberOf own) refl other)
-
-  chain-6 : (numberOf chain ≡ 6) ↔ (WellFormed h × (Q × Miscounted (h .flags) k blocks))
-  chain-6 =
-      later-exactly (form-says h) HasherForm _ 6 _ (λ e. omega arith)
-      (later-exactly says own _ 6 _ (λ e. omega arith) (ending-6 (h .flags) k blocks table))
-
-  chain-table : (n : ℕ) → OfTable n → (numberOf chain ≡ n)
+-- what each line of the table says of the refusal r of a call that refuses 1, then by a test of its own, then as the ending does
+record Lines (r : Refusal) (h : Hasher) (own : ℕ) (P Q : Type 0) (k blocks : ℕ) (table : List ℕ) : Type 0 where
+  at-0 : (numberOf r ≡ 0) ↔ (WellFormed h × (Q × (WellCounted (h .flags) k blocks × (h .flags .detect ≡ true → GoodTable table))))
+  at-1 : (numberOf r ≡ 1) ↔ (WellFormed h → ⊥)
+  at-own : (numberOf r ≡ own) ↔ (WellFormed h × P)
+  at-6 : (numberOf r ≡ 6) ↔ (WellFormed h × (Q × Miscounted (h .flags) k blocks))
+  at-table : (n : ℕ) → OfTable n → (numberOf r ≡ n)
       ↔ (WellFormed h × (Q × (WellCounted (h .flags) k blocks × ((h .flags .detect ≡ true) × (numberOf (tableFault table) ≡ n)))))
-  chain-table n t =
-      let a = t .0 in
-      let z = t .1 in
-      later-exactly (form-says h) HasherForm _ n _ (λ e. omega arith)
-      (later-exactly says own _ n _ (λ e. omega arith) (ending-table (h .flags) k blocks table n t))
+  gives : WellFormed h → Q → WellCounted (h .flags) k blocks → h .flags .detect ≡ true → r ≡ tableFault table
+  among : (l : List ℕ) → HasTable l → oneOf l 1 ≡ true → oneOf l 6 ≡ true → oneOf l own ≡ true → Among l r
 
-  chain-is : WellFormed h → Q → WellCounted (h .flags) k blocks → h .flags .detect ≡ true → chain ≡ tableFault table
-  chain-is w q c d = later-is (form-says h) HasherForm _ w ∙ later-is says own _ q ∙ ending-is (h .flags) k blocks table c d
-
-  chain-among : (l : List ℕ) → HasTable l → oneOf l 1 ≡ true → oneOf l 6 ≡ true → Among l own → Among l chain
-  chain-among l t p c o =
-      of-either (Among l) (not (wellFormed h)) HasherForm _ p (of-either (Among l) b own _ o (ending-among (h .flags) k blocks table l t c))
+-- the chain of an update and of a finish-and-reset: the number of the test of its own is above 6
+module _ (h : Hasher) (b : Bool) (P Q : Type 0) (says : Says b P Q) (own : Refusal) (above : 6 < numberOf own) (k blocks : ℕ) (table : List ℕ)
+    (other : numberOf (ending (h .flags) k blocks table) ≡ numberOf own → ⊥) where
+  lines : (r : Refusal) → r ≡ pick (not (wellFormed h)) HasherForm (pick b own (ending (h .flags) k blocks table))
+      → Lines r h (numberOf own) P Q k blocks table
+  lines r e =
+      let f = h .flags in
+      -- a number but 1 and that of the test of its own
+      let later : (n : ℕ) (R : Type 0) → (1 ≡ n → ⊥) → (numberOf own ≡ n → ⊥) → (numberOf (ending f k blocks table) ≡ n) ↔ R
+      → (numberOf r ≡ n) ↔ (WellFormed h × (Q × R)) =
+      λ n R p q d. over n _ e (later-exactly (form-says h) HasherForm _ n _ p (later-exactly says own _ n R q d))
+      in
+      record {
+        at-0 = later 0 _ (λ x. omega arith) (λ x. omega arith) (ending-0 f k blocks table);
+        at-1 = over 1 _ e (first-exactly (form-says h) HasherForm _ 1 refl (never b own _ 1 (λ x. omega arith) (ending-away f k blocks table 1 refl)));
+        at-own =
+            over (numberOf own) _ e
+            (later-exactly (form-says h) HasherForm _ (numberOf own) P (λ x. omega arith) (first-exactly says own _ (numberOf own) refl other));
+        at-6 = later 6 _ (λ x. omega arith) (λ x. omega arith) (ending-6 f k blocks table);
+        at-table = λ n t. let a = t .0 in let z = t .1 in later n _ (λ x. omega arith) (λ x. omega arith) (ending-table f k blocks table n t);
+        gives = λ w q c d. e ∙ later-is (form-says h) HasherForm _ w ∙ later-is says own _ q ∙ ending-is f k blocks table c d;
+        among = λ l t p c o.
+            subst (Among l) (sym e)
+            (of-either (Among l) (not (wellFormed h)) HasherForm _ p (of-either (Among l) b own _ o (ending-among f k blocks table l t c)));
+      }
 
 -- Reset: 1.
 module _ (h : Hasher) where
@@ -168,12 +170,10 @@ module _ (h : Hasher) where
       by false = refl
 
   pub reset-0 : (numberOf (resetOf h .refusal) ≡ 0) ↔ WellFormed h
-  reset-0 =
-      over 0 _ reset-is (first-exactly (decided (wellFormed h) (WellFormed h) (well-formed h)) Nothing HasherForm 0 refl (λ e. omega arith))
+  reset-0 = over 0 _ reset-is (first-exactly (well-says h) Nothing HasherForm 0 refl (λ e. omega arith))
 
   pub reset-1 : (numberOf (resetOf h .refusal) ≡ 1) ↔ (WellFormed h → ⊥)
-  reset-1 =
-      over 1 _ reset-is (last-exactly (decided (wellFormed h) (WellFormed h) (well-formed h)) Nothing HasherForm 1 (λ e. omega arith) refl)
+  reset-1 = over 1 _ reset-is (last-exactly (well-says h) Nothing HasherForm 1 (λ e. omega arith) refl)
 
   pub reset-only : oneOf (0 ∷ 1 ∷ []) (numberOf (resetOf h .refusal)) ≡ true
   reset-only =
@@ -183,67 +183,62 @@ module _ (h : Hasher) where
   -- a refusal hands the hasher back as it was
   pub reset-refused : (WellFormed h → ⊥) → resetOf h ≡ record { refusal = HasherForm; hasher = h }
   unfolding resetOf
-  reset-refused n = rw (decided (wellFormed h) (WellFormed h) (well-formed h) .off .1 n)
+  reset-refused n = rw (well-says h .off .1 n)
 
 -- Update: 1, 7, 6, then the table.
 module _ (h : Hasher) (bytes table masks : List ℕ) where
-  long-says : Says (ltb mostBytes (taken h + length bytes)) (mostBytes < taken h + length bytes) (taken h + length bytes ≤ mostBytes)
-  long-says = less mostBytes (taken h + length bytes)
+  update-lines : Lines (updated h bytes table masks .refusal) h 7 (mostBytes < taken h + length bytes) (taken h + length bytes ≤ mostBytes)
+      (length masks) (blocksFilled h (length bytes)) table
+  unfolding updated updateRefusal
+  update-lines =
+      lines h _ _ _ (less mostBytes (taken h + length bytes)) MessageLength (omega arith) (length masks) (blocksFilled h (length bytes)) table
+      (ending-away (h .flags) (length masks) (blocksFilled h (length bytes)) table 7 refl) _ refl
 
   -- nothing is refused exactly when no line of the table holds
   pub update-0 : (numberOf (updated h bytes table masks .refusal) ≡ 0)
       ↔ (WellFormed h × ((taken h + length bytes ≤ mostBytes) × (WellCounted (h .flags) (length masks) (blocksFilled h (length bytes))
       × (h .flags .detect ≡ true → GoodTable table))))
-  unfolding updated updateRefusal
-  update-0 = chain-0 h _ _ _ long-says MessageLength (omega arith) (length masks) (blocksFilled h (length bytes)) table
+  update-0 = update-lines .at-0
 
   pub update-1 : (numberOf (updated h bytes table masks .refusal) ≡ 1) ↔ (WellFormed h → ⊥)
-  unfolding updated updateRefusal
-  update-1 = chain-1 h _ _ _ long-says MessageLength (omega arith) (length masks) (blocksFilled h (length bytes)) table
+  update-1 = update-lines .at-1
 
   pub update-7 : (numberOf (updated h bytes table masks .refusal) ≡ 7) ↔ (WellFormed h × (mostBytes < taken h + length bytes))
-  unfolding updated updateRefusal
-  update-7 =
-      chain-own h _ _ _ long-says MessageLength (omega arith) (length masks) (blocksFilled h (length bytes)) table
-      (ending-away (h .flags) (length masks) (blocksFilled h (length bytes)) table 7 refl)
+  update-7 = update-lines .at-own
 
   pub update-6 : (numberOf (updated h bytes table masks .refusal) ≡ 6)
       ↔ (WellFormed h × ((taken h + length bytes ≤ mostBytes) × Miscounted (h .flags) (length masks) (blocksFilled h (length bytes))))
-  unfolding updated updateRefusal
-  update-6 = chain-6 h _ _ _ long-says MessageLength (omega arith) (length masks) (blocksFilled h (length bytes)) table
+  update-6 = update-lines .at-6
 
   pub update-table : (n : ℕ) → OfTable n → (numberOf (updated h bytes table masks .refusal) ≡ n)
       ↔ (WellFormed h × ((taken h + length bytes ≤ mostBytes) × (WellCounted (h .flags) (length masks) (blocksFilled h (length bytes))
       × ((h .flags .detect ≡ true) × (numberOf (tableFault table) ≡ n)))))
-  unfolding updated updateRefusal
-  update-table = chain-table h _ _ _ long-says MessageLength (omega arith) (length masks) (blocksFilled h (length bytes)) table
+  update-table = update-lines .at-table
 
   -- where the table is looked at, what is wrong with it is what is given, number and place
   pub update-gives : WellFormed h → taken h + length bytes ≤ mostBytes → WellCounted (h .flags) (length masks) (blocksFilled h (length bytes))
       → h .flags .detect ≡ true → updated h bytes table masks .refusal ≡ tableFault table
-  unfolding updated updateRefusal
-  update-gives = chain-is h _ _ _ long-says MessageLength (omega arith) (length masks) (blocksFilled h (length bytes)) table
+  update-gives = update-lines .gives
 
   pub update-only : oneOf (0 ∷ 1 ∷ 2 ∷ 3 ∷ 4 ∷ 5 ∷ 6 ∷ 7 ∷ []) (numberOf (updated h bytes table masks .refusal)) ≡ true
-  unfolding updated updateRefusal
-  update-only =
-      chain-among h _ _ _ long-says MessageLength (omega arith) (length masks) (blocksFilled h (length bytes)) table
-      (0 ∷ 1 ∷ 2 ∷ 3 ∷ 4 ∷ 5 ∷ 6 ∷ 7 ∷ []) (refl, refl, refl, refl, refl) refl refl refl
+  update-only = update-lines .among (0 ∷ 1 ∷ 2 ∷ 3 ∷ 4 ∷ 5 ∷ 6 ∷ 7 ∷ []) (refl, refl, refl, refl, refl) refl refl refl
 
   -- a refusal hands the hasher back as it was
   pub update-refused : (numberOf (updated h bytes table masks .refusal) ≡ 0 → ⊥) → updated h bytes table masks .hasher ≡ h
   unfolding updated
   update-refused n = rw (ne-eqb (numberOf (updateRefusal h bytes table masks)) 0 n)
 
+  -- and one in place leaves the lent hasher as it was
+  pub in-place-refused : (r : Refusal) (g : Hasher) → InPlace h bytes table masks r g → (numberOf r ≡ 0 → ⊥) → g ≡ h
+  in-place-refused r g p n = p .0 ∙ update-refused (λ e. n (ap numberOf (p .1) ∙ e))
+
 -- One block: 8, then the table.
 module _ (five block table : List ℕ) (mask : ℕ) (mode : Mode) where
   block-is : oneBlockOf five block table mask mode .refusal ≡ oneBlockRefusal (length block) table
   unfolding oneBlockOf
-  block-is = by _ _ _ refl
-    where
-      by : (r : Refusal) (a : Answer) (b : Bool) → isNothing r ≡ b → pick b (answeredBlock a) (refusedBlock r) .refusal ≡ r
-      by r a true e = sym (nothing-is r e)
-      by r a false e = refl
+  block-is =
+      let r = oneBlockRefusal (length block) table in
+      of-refusal (λ (o : OneBlock). o .refusal ≡ r) r _ (refusedBlock r) (λ e. sym e) (λ e. refl)
 
   pub block-0 : (numberOf (oneBlockOf five block table mask mode .refusal) ≡ 0) ↔ ((length block ≡ 64) × GoodTable table)
   block-0 =
@@ -276,11 +271,7 @@ module _ (five block table : List ℕ) (mask : ℕ) (mode : Mode) where
 
 -- an outcome refuses what its call refuses
 outcome-is : (r : Refusal) (v : Verdict) → outcomeRefusal (pick (isNothing r) (Done v) (Refused r)) ≡ r
-outcome-is r v = by _ refl
-  where
-    by : (b : Bool) → isNothing r ≡ b → outcomeRefusal (pick b (Done v) (Refused r)) ≡ r
-    by true e = sym (nothing-is r e)
-    by false e = refl
+outcome-is r v = of-refusal (λ (o : Outcome). outcomeRefusal o ≡ r) r (Done v) (Refused r) (λ e. sym e) (λ e. refl)
 
 -- its place is 0 for every number but 3, 4 and 5, as it is for every refusal
 pub outcome-place : (o : Outcome) → ((3 ≤ outcomeNumber o) × (outcomeNumber o ≤ 5) → ⊥) → outcomePlace o ≡ 0
@@ -342,52 +333,43 @@ module _ (h : Hasher) (table masks : List ℕ) where
 
 -- Finish-and-reset: 1, 8, 6, then the table. It is lent an output of some size.
 module _ (h : Hasher) (size : ℕ) (table masks : List ℕ) where
-  size-says : Says (not (eqb size digestSize)) (size ≡ digestSize → ⊥) (size ≡ digestSize)
-  size-says = negated (equal size digestSize)
-
   close-is : outcomeRefusal (closed h size table masks .outcome) ≡ finishRefusal h size table masks
   unfolding closed
   close-is = outcome-is _ _
 
+  close-lines : Lines (outcomeRefusal (closed h size table masks .outcome)) h 8 (size ≡ digestSize → ⊥) (size ≡ digestSize)
+      (length masks) (tailBlocks (h .fill)) table
+  unfolding finishRefusal
+  close-lines =
+      lines h _ _ _ (negated (equal size digestSize)) Size (omega arith) (length masks) (tailBlocks (h .fill)) table
+      (ending-away (h .flags) (length masks) (tailBlocks (h .fill)) table 8 refl) _ close-is
+
   pub close-0 : (outcomeNumber (closed h size table masks .outcome) ≡ 0)
       ↔ (WellFormed h × ((size ≡ digestSize) × (WellCounted (h .flags) (length masks) (tailBlocks (h .fill)) × (h .flags .detect ≡ true → GoodTable table))))
-  unfolding finishRefusal
-  close-0 = over 0 _ close-is (chain-0 h _ _ _ size-says Size (omega arith) (length masks) (tailBlocks (h .fill)) table)
+  close-0 = close-lines .at-0
 
   pub close-1 : (outcomeNumber (closed h size table masks .outcome) ≡ 1) ↔ (WellFormed h → ⊥)
-  unfolding finishRefusal
-  close-1 = over 1 _ close-is (chain-1 h _ _ _ size-says Size (omega arith) (length masks) (tailBlocks (h .fill)) table)
+  close-1 = close-lines .at-1
 
   pub close-8 : (outcomeNumber (closed h size table masks .outcome) ≡ 8) ↔ (WellFormed h × (size ≡ digestSize → ⊥))
-  unfolding finishRefusal
-  close-8 =
-      over 8 _ close-is
-      (chain-own h _ _ _ size-says Size (omega arith) (length masks) (tailBlocks (h .fill)) table
-      (ending-away (h .flags) (length masks) (tailBlocks (h .fill)) table 8 refl))
+  close-8 = close-lines .at-own
 
   pub close-6 : (outcomeNumber (closed h size table masks .outcome) ≡ 6)
       ↔ (WellFormed h × ((size ≡ digestSize) × Miscounted (h .flags) (length masks) (tailBlocks (h .fill))))
-  unfolding finishRefusal
-  close-6 = over 6 _ close-is (chain-6 h _ _ _ size-says Size (omega arith) (length masks) (tailBlocks (h .fill)) table)
+  close-6 = close-lines .at-6
 
   pub close-table : (n : ℕ) → OfTable n → (outcomeNumber (closed h size table masks .outcome) ≡ n)
       ↔ (WellFormed h × ((size ≡ digestSize) × (WellCounted (h .flags) (length masks) (tailBlocks (h .fill))
       × ((h .flags .detect ≡ true) × (numberOf (tableFault table) ≡ n)))))
-  unfolding finishRefusal
-  close-table n t = over n _ close-is (chain-table h _ _ _ size-says Size (omega arith) (length masks) (tailBlocks (h .fill)) table n t)
+  close-table = close-lines .at-table
 
   -- where the table is looked at, what is wrong with it is what is given, number and place
   pub close-gives : WellFormed h → size ≡ digestSize → WellCounted (h .flags) (length masks) (tailBlocks (h .fill)) → h .flags .detect ≡ true
       → outcomeRefusal (closed h size table masks .outcome) ≡ tableFault table
-  unfolding finishRefusal
-  close-gives w q c d = close-is ∙ chain-is h _ _ _ size-says Size (omega arith) (length masks) (tailBlocks (h .fill)) table w q c d
+  close-gives = close-lines .gives
 
   pub close-only : oneOf (0 ∷ 1 ∷ 2 ∷ 3 ∷ 4 ∷ 5 ∷ 6 ∷ 8 ∷ []) (outcomeNumber (closed h size table masks .outcome)) ≡ true
-  unfolding finishRefusal
-  close-only =
-      let l : List ℕ = 0 ∷ 1 ∷ 2 ∷ 3 ∷ 4 ∷ 5 ∷ 6 ∷ 8 ∷ [] in
-      subst (Among l) (sym close-is)
-      (chain-among h _ _ _ size-says Size (omega arith) (length masks) (tailBlocks (h .fill)) table l (refl, refl, refl, refl, refl) refl refl refl)
+  close-only = close-lines .among (0 ∷ 1 ∷ 2 ∷ 3 ∷ 4 ∷ 5 ∷ 6 ∷ 8 ∷ []) (refl, refl, refl, refl, refl) refl refl refl
 
 -- a refused finish-and-reset gives no verdict, the hasher as it was, and writes nothing
 pub close-refused : (h : Hasher) (out table masks : List ℕ) → (outcomeNumber (closed h (length out) table masks .outcome) ≡ 0 → ⊥)

@@ -1,4 +1,4 @@
--- Demand 2, nothing vague: any two results that the contract of an entry point allows on the same arguments agree, lent bytes included. Assumes nothing.
+-- 01, "Nothing vague in a contract": any two results that the contract of an entry point allows on the same arguments agree, lent bytes included. Assumes nothing.
 use mathlib.Core.Path.{_≡_, refl, sym, _∙_}
 use mathlib.Core.List.{List}
 use Prim.Native.Nat.{ℕ}
@@ -12,10 +12,13 @@ use contract.Lifetimes.{Lfts}
 use contract.Monad.{Fun, fact}
 use denote.Triple.Entry.{Args, Res}
 use denote.Triple.Clauses.{AtExit}
-use borrow.Fn.Kinds.{PK, RK, Out, Dens, resT, endedOf}
 use Rattle.refusal.specs.declared.Refusal.{Refusal}
 use Rattle.hasher.specs.declared.Hasher.{Hasher}
 use Rattle.lent.specs.InPlace.{InPlace}
+use Rattle.refusal.proofs.number.Kinds as number-kinds
+use Rattle.refusal.proofs.number.Reads as number-contract
+use Rattle.refusal.proofs.place.Kinds as place-kinds
+use Rattle.refusal.proofs.place.Reads as place-contract
 use Rattle.table.proofs.table_fault.Kinds as table-kinds
 use Rattle.table.proofs.table_fault.Reads as table-contract
 use Rattle.detect.proofs.one_block.Kinds as block-kinds
@@ -55,40 +58,37 @@ use Rattle.file.proofs.file_words.Reads as words-contract
 use Rattle.file.proofs.file_fault.Kinds as fault-kinds
 use Rattle.file.proofs.file_fault.Reads as fault-contract
 use Rattle.lent.proofs.update_in_place as in-place
-
--- two results x and y, with the parameters at exit d and e, that a contract allows on the same arguments
-pub record Two (n : ℕ) (ps : List (PK n)) (r : RK n) (contract : Out n ps r) : Type 0 where
-  pub lifetimes : Lfts n
-  pub args : Dens lifetimes ps
-  pub x : resT r lifetimes .Denot
-  pub y : resT r lifetimes .Denot
-  pub d : AtExit (endedOf n ps r) lifetimes
-  pub e : AtExit (endedOf n ps r) lifetimes
-  pub first : contract lifetimes args x d
-  pub second : contract lifetimes args y e
+use Rattle.claims.specs.Settled.{Two, Settled}
 
 -- what is equal to one meaning is equal
 same : {A : Type 0} {m x y : A} → x ≡ m → y ≡ m → x ≡ y
 same p q = p ∙ sym q
 
+-- A refusal's number, and its place.
+pub number-settled : Settled 0 number-kinds.ps number-kinds.r number-contract.Post
+number-settled t = same (t .first) (t .second)
+
+pub place-settled : Settled 0 place-kinds.ps place-kinds.r place-contract.Post
+place-settled t = same (t .first) (t .second)
+
 -- The table check.
-pub table-check-settled : (t : Two 1 table-kinds.ps table-kinds.r table-contract.Post) → t .x ≡ t .y
+pub table-check-settled : Settled 1 table-kinds.ps table-kinds.r table-contract.Post
 table-check-settled t = same (t .first) (t .second)
 
 -- The one-block entry.
-pub one-block-settled : (t : Two 2 block-kinds.ps block-kinds.r block-contract.Post) → t .x ≡ t .y
+pub one-block-settled : Settled 2 block-kinds.ps block-kinds.r block-contract.Post
 one-block-settled t = same (t .first) (t .second)
 
 -- An update.
-pub update-settled : (t : Two 3 update-kinds.ps update-kinds.r update-contract.Post) → t .x ≡ t .y
+pub update-settled : Settled 3 update-kinds.ps update-kinds.r update-contract.Post
 update-settled t = same (t .first) (t .second)
 
 -- A reset.
-pub reset-settled : (t : Two 0 reset-kinds.ps reset-kinds.r reset-contract.Post) → t .x ≡ t .y
+pub reset-settled : Settled 0 reset-kinds.ps reset-kinds.r reset-contract.Post
 reset-settled t = same (t .first) (t .second)
 
 -- A finish.
-pub finish-settled : (t : Two 2 finish-kinds.ps finish-kinds.r finish-contract.Post) → t .x ≡ t .y
+pub finish-settled : Settled 2 finish-kinds.ps finish-kinds.r finish-contract.Post
 finish-settled t = same (t .first) (t .second)
 
 -- A finish-and-reset, with the bytes that it leaves in the lent output.
@@ -96,34 +96,34 @@ pub finish-and-reset-settled : (t : Two 3 close-kinds.ps close-kinds.r close-con
 finish-and-reset-settled t = (same (t .first .0) (t .second .0), same (t .first .1) (t .second .1))
 
 -- The one-shot form.
-pub one-shot-settled : (t : Two 3 shot-kinds.ps shot-kinds.r shot-contract.Post) → t .x ≡ t .y
+pub one-shot-settled : Settled 3 shot-kinds.ps shot-kinds.r shot-contract.Post
 one-shot-settled t = same (t .first) (t .second)
 
 -- A new hasher.
-pub new-settled : (t : Two 0 new-kinds.ps new-kinds.r new-contract.Post) → t .x ≡ t .y
+pub new-settled : Settled 0 new-kinds.ps new-kinds.r new-contract.Post
 new-settled t = same (t .first) (t .second)
 
 -- The default flags, and the flags with one of them set.
-pub defaults-settled : (t : Two 0 defaults-kinds.ps defaults-kinds.r defaults-contract.Post) → t .x ≡ t .y
+pub defaults-settled : Settled 0 defaults-kinds.ps defaults-kinds.r defaults-contract.Post
 defaults-settled t = same (t .first) (t .second)
 
-pub detect-collision-settled : (t : Two 0 detect-kinds.ps detect-kinds.r detect-contract.Post) → t .x ≡ t .y
+pub detect-collision-settled : Settled 0 detect-kinds.ps detect-kinds.r detect-contract.Post
 detect-collision-settled t = same (t .first) (t .second)
 
-pub safe-hash-settled : (t : Two 0 safe-kinds.ps safe-kinds.r safe-contract.Post) → t .x ≡ t .y
+pub safe-hash-settled : Settled 0 safe-kinds.ps safe-kinds.r safe-contract.Post
 safe-hash-settled t = same (t .first) (t .second)
 
-pub use-ubc-settled : (t : Two 0 ubc-kinds.ps ubc-kinds.r ubc-contract.Post) → t .x ≡ t .y
+pub use-ubc-settled : Settled 0 ubc-kinds.ps ubc-kinds.r ubc-contract.Post
 use-ubc-settled t = same (t .first) (t .second)
 
-pub reduced-round-collision-settled : (t : Two 0 reduced-kinds.ps reduced-kinds.r reduced-contract.Post) → t .x ≡ t .y
+pub reduced-round-collision-settled : Settled 0 reduced-kinds.ps reduced-kinds.r reduced-contract.Post
 reduced-round-collision-settled t = same (t .first) (t .second)
 
 -- The words of a table file, and its check.
-pub file-words-settled : (t : Two 1 words-kinds.ps words-kinds.r words-contract.Post) → t .x ≡ t .y
+pub file-words-settled : Settled 1 words-kinds.ps words-kinds.r words-contract.Post
 file-words-settled t = same (t .first) (t .second)
 
-pub file-fault-settled : (t : Two 1 fault-kinds.ps fault-kinds.r fault-contract.Post) → t .x ≡ t .y
+pub file-fault-settled : Settled 1 fault-kinds.ps fault-kinds.r fault-contract.Post
 file-fault-settled t = same (t .first) (t .second)
 
 -- A lookup on the sheet: the bytes handed back, and the place in memory where they lie.
@@ -131,15 +131,15 @@ pub lookup-settled : (t : Two 2 lookup-kinds.ps lookup-kinds.r lookup-contract.P
 lookup-settled t = (same (t .first .0) (t .second .0), same (t .first .1) (t .second .1))
 
 -- What a lookup refuses.
-pub lookup-refusal-settled : (t : Two 2 lookup-refusal-kinds.ps lookup-refusal-kinds.r lookup-refusal-contract.Post) → t .x ≡ t .y
+pub lookup-refusal-settled : Settled 2 lookup-refusal-kinds.ps lookup-refusal-kinds.r lookup-refusal-contract.Post
 lookup-refusal-settled t = same (t .first) (t .second)
 
 -- A comparison with the sheet.
-pub compare-settled : (t : Two 2 compare-kinds.ps compare-kinds.r compare-contract.Post) → t .x ≡ t .y
+pub compare-settled : Settled 2 compare-kinds.ps compare-kinds.r compare-contract.Post
 compare-settled t = same (t .first) (t .second)
 
 -- An update in place of a local.
-pub through-settled : (t : Two 3 through-kinds.ps through-kinds.r through-contract.Post) → t .x ≡ t .y
+pub through-settled : Settled 3 through-kinds.ps through-kinds.r through-contract.Post
 through-settled t = same (t .first) (t .second)
 
 -- What the contract of an update in place, which is proved by hand, says of its result and of the hasher at exit is `InPlace`.

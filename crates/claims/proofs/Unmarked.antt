@@ -1,4 +1,4 @@
--- Where no block is compressed again, the fold is the standard's. Assumes nothing.
+-- Where no block is compressed again, the fold in which some are is the standard's. Assumes nothing.
 use mathlib.Core.Path.{_≡_, refl}
 use mathlib.Core.Bool.{Bool, false}
 use mathlib.Core.List.{List}
@@ -10,7 +10,11 @@ use Rattle.step.specs.declared.Regs.{Regs}
 use Rattle.block.specs.Compress.{compressOf}
 use Rattle.stream.specs.Fips.{hashBlocks}
 use Rattle.stream.specs.Fold.{allBits}
-use Rattle.claims.specs.Marked.{hashMarked, atBlock}
+use Rattle.claims.specs.Marked.{hashMarked}
+
+-- what a test says of block i of xs, of the chaining words that the blocks before it lead to, and of its mask
+abbrev pub atBlock : (Regs → List ℕ → ℕ → Bool) → (Regs → List ℕ → ℕ → Bool) → Regs → List ℕ → List ℕ → ℕ → Bool
+atBlock test again h xs masks i = test (hashMarked again i h xs masks) (take 64 (drop (64 * i) xs)) (getD masks i allBits)
 
 pub hash-plain : (again : Regs → List ℕ → ℕ → Bool) (n : ℕ) (h : Regs) (xs masks : List ℕ)
     → ((i : ℕ) → i < n → atBlock again again h xs masks i ≡ false) → hashMarked again n h xs masks ≡ hashBlocks n h xs

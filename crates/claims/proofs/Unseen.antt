@@ -1,4 +1,4 @@
--- Demand 2, what is not looked at: tables and masks with detection off, masks where none are asked for; and masks off is every bit for every block. Assumes nothing.
+-- What a call does not look at changes nothing: tables and masks with detection off, masks where none are asked for; and masks off is every bit for every block. Assumes nothing.
 use mathlib.Core.Path.{_≡_, refl, sym}
 use mathlib.Core.Bool.{Bool, true, false, not, _&&_, and-false}
 use mathlib.Core.List.{List, []}

@@ -1,18 +1,18 @@
--- What an update that is not refused makes of a hasher, and two such updates in a row. Assumes nothing.
+-- Two updates in a row, neither refused, make of a hasher what one does. Assumes nothing.
 use mathlib.Core.Path.{_≡_, sym, ap, _∙_}
 use mathlib.Core.Bool.{true}
 use mathlib.Core.List.{List, _++_, append-assoc}
-use Prim.Native.Nat.{ℕ, _+_, _*_, _/_, _≤_}
+use Prim.Native.Nat.{ℕ, _+_, _*_, _/_}
 use native.Mathlib.Omega.{arith}
 use lib.ListN.{length, take, drop, length-append}
 use lib.Seq.{drop-drop, drop-append-le, take-append-seam}
 use Rattle.stream.specs.Flags.{usesMasks}
 use Rattle.stream.specs.Fold.{lookedAt, folded}
 use Rattle.stream.specs.declared.Chain.{Chain}
-use Rattle.hasher.specs.Hasher.{chainOf, streamOf, zeroed, moved, advanced, absorbed}
+use Rattle.hasher.specs.Hasher.{chainOf, streamOf, zeroed, moved, absorbed}
 use Rattle.hasher.specs.declared.Hasher.{Hasher}
-use Rattle.hasher.proofs.Moves.{stream-long}
-use Rattle.finish.proofs.Padded.{restOf, rest-length, folded-lent}
+use Rattle.hasher.proofs.Moves.{restOf, rest-length, chainAfter, absorbed-is}
+use Rattle.finish.proofs.Padded.{folded-lent}
 
 -- a stream that goes on: its whole blocks, and what is left of it
 module _ (s e : List ℕ) where
@@ -25,21 +25,6 @@ module _ (s e : List ℕ) where
       let m = length (restOf s ++ e) / 64 in
       let q : 64 * (n + m) ≡ 64 * n + 64 * m = omega arith in
       rw (blocks-join, q) (sym (drop-drop (64 * m) (64 * n) (s ++ e)) ∙ ap (drop (64 * m)) (drop-append-le (64 * n) s e (omega arith)))
-
-pub stream-length : (h : Hasher) (bytes : List ℕ) → length (h .pending) ≡ 64 → h .fill ≤ 63
-    → length (streamOf h bytes) ≡ h .fill + length bytes
-stream-length h bytes long below = stream-long (h .pending) bytes (h .fill) long below
-
--- the chain after an update
-abbrev pub chainAfter : Hasher → List ℕ → List ℕ → List ℕ → Chain
-chainAfter h bytes table masks = folded (h .flags) table (chainOf h) (streamOf h bytes) (lookedAt (h .flags) masks)
-
-pub absorbed-is : (h : Hasher) (bytes table masks : List ℕ)
-    → absorbed h bytes table masks ≡ moved h (chainAfter h bytes table masks) (restOf (streamOf h bytes)) (length (streamOf h bytes) / 64)
-unfolding absorbed advanced
-absorbed-is h bytes table masks =
-    let z : 0 + length (streamOf h bytes) / 64 ≡ length (streamOf h bytes) / 64 = omega arith in
-    rw z
 
 -- an update of a hasher that an update gave
 absorbed-moved : (h : Hasher) (c : Chain) (rest e table ns : List ℕ) (n : ℕ)

@@ -19,9 +19,9 @@ use Rattle.claims.specs.Pieces.{Piece, bytesOf, lentMasks, taking, hashe
 use Rattle.claims.specs.Marked.{againBy, blocksIn, sha1Marked, markedAt}
 use Rattle.claims.proofs.Below.{anyBelow}
 use Rattle.claims.proofs.Blocks.{run-words}
-use Rattle.claims.proofs.After.{mark-after, flags-after, fill-after}
+use Rattle.claims.proofs.After.{mark-after, fill-after}
 use Rattle.claims.proofs.Piecewise.{pieces-taken, pieces-absorbed}
-use Rattle.claims.proofs.Kept.{fresh-sound}
+use Rattle.claims.proofs.Kept.{fresh-sound, pieces-flags}
 use Rattle.finish.proofs.Padded.{last-chain-is}
 
 -- a message's first chain
@@ -30,11 +30,11 @@ start = record { words = initial; mark = false }
 
 module _ (f : Flags) (table : List ℕ) where
   -- the hasher after the updates
-  pub taking-is : (ps : List Piece) → taking f table ps .refusal ≡ Nothing
+  taking-is : (ps : List Piece) → taking f table ps .refusal ≡ Nothing
       → taking f table ps ≡ record { refusal = Nothing; hasher = absorbed (freshOf f) (bytesOf ps) table (lentMasks ps) }
   taking-is ps e = pieces-absorbed ps (freshOf f) table (fresh-sound f .size) (fresh-sound f .well) e
 
-  -- what is known of a message whose updates are not refused: its masks, its length, the flags and the fill that it leaves
+  -- what is known of a message whose updates are not refused: its masks, its length and the fill that it leaves
   pub masks-counted : (ps : List Piece) → taking f table ps .refusal ≡ Nothing → usesMasks f ≡ true → length (lentMasks ps) ≡ length (bytesOf ps) / 64
   masks-counted [] e u = refl
   masks-counted (p ∷ ps) e u =
@@ -47,15 +47,12 @@ module _ (f : Flags) (table : List ℕ) where
       let l = pieces-taken p ps (freshOf f) table (fresh-sound f .size) e .fits in
       omega arith
 
-  pub flags-is : (ps : List Piece) → taking f table ps .refusal ≡ Nothing → taking f table ps .hasher .flags ≡ f
-  flags-is ps e = rw (taking-is ps e) (flags-after (freshOf f) (bytesOf ps) table (lentMasks ps))
-
   pub fill-is : (ps : List Piece) → taking f table ps .refusal ≡ Nothing → taking f table ps .hasher .fill ≡ length (bytesOf ps) % 64
   fill-is ps e = rw (taking-is ps e) (fill-after (freshOf f) (bytesOf ps) table (lentMasks ps) refl (omega arith) ∙ omega arith)
 
   module _ (ps : List Piece) (last : List ℕ) (ok : NoneRefused f table ps last) where
     -- the chain after all blocks
-    abbrev pub wholeChain : Chain
+    abbrev wholeChain : Chain
     wholeChain = folded f table start (padded (bytesOf ps)) (blockMasks f ps last)
 
     last-chain : lastChain (taking f table ps .hasher) table last ≡ wholeChain
@@ -66,7 +63,7 @@ module _ (f : Flags) (table : List ℕ) where
     pub hashed-by : hashed f table ps last
         ≡ record { outcome = Done (verdictOf (wholeChain .mark) (f .mitigate)); digest = digestOf (wholeChain .words); hasher = taking f table ps .hasher }
     unfolding finished
-    hashed-by = rw (ok .finish, last-chain, flags-is ps (ok .updates))
+    hashed-by = rw (ok .finish, last-chain, pieces-flags (freshOf f) table ps)
 
     -- the answer, by the marks of the blocks
     pub hashed-is : hashed f table ps last

@@ -6,3 +6,5 @@ pub mod Refusals
 pub mod Settings
 pub mod Message
 pub mod Control
+pub mod Settled
+pub mod Bench

@@ -40,13 +40,21 @@ blocksIn msg = length (padded msg) / 64
 abbrev pub sha1Marked : (Regs → List ℕ → ℕ → Bool) → List ℕ → List ℕ → List ℕ
 sha1Marked again msg masks = digestOf (hashMarked again (blocksIn msg) initial (padded msg) masks)
 
--- what a test says of block i of xs, of the chaining words that the blocks before it lead to, and of its mask
-abbrev pub atBlock : (Regs → List ℕ → ℕ → Bool) → (Regs → List ℕ → ℕ → Bool) → Regs → List ℕ → List ℕ → ℕ → Bool
-atBlock test again h xs masks i = test (hashMarked again i h xs masks) (take 64 (drop (64 * i) xs)) (getD masks i allBits)
+-- the chaining words that block i of the padded message meets
+abbrev pub wordsBefore : Flags → List ℕ → List ℕ → List ℕ → ℕ → Regs
+wordsBefore f table msg masks i = hashMarked (againBy f table) i initial (padded msg) masks
+
+-- block i of the padded message
+abbrev pub blockAt : List ℕ → ℕ → List ℕ
+blockAt msg i = take 64 (drop (64 * i) (padded msg))
+
+-- the mask of block i: every bit where none is given
+abbrev pub maskFor : List ℕ → ℕ → ℕ
+maskFor masks i = getD masks i allBits
 
 -- whether block i of the padded message is marked
 abbrev pub markedAt : Flags → List ℕ → List ℕ → List ℕ → ℕ → Bool
-markedAt f table msg masks i = atBlock (markedBy f table) (againBy f table) initial (padded msg) masks i
+markedAt f table msg masks i = markedBy f table (wordsBefore f table msg masks i) (blockAt msg i) (maskFor masks i)
 
 -- no block of a message is marked, padding included
 abbrev pub NoneMarked : Flags → List ℕ → List ℕ → List ℕ → Type 0

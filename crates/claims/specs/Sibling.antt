@@ -1,6 +1,7 @@
 -- Demand 3 in the words of FIPS 180-4: the sibling block, and the start from which it meets the block.
 use mathlib.Core.Path.{_≡_}
-use mathlib.Core.Bool.{true}
+use mathlib.Core.Logic.{_⊎_}
+use mathlib.Core.Bool.{Bool, true}
 use mathlib.Core.List.{List}
 use Prim.Native.Nat.{ℕ, _<_}
 use lib.ListN.{length, getD}
@@ -39,9 +40,21 @@ pub record Meets (h : Regs) (block table : List ℕ) (i : ℕ) : Type 0 where
   pub reaches : Reaches h block table i start
   pub ends : EndsAlike h block table i start
 
--- a record of the table that the mask selects, and by which the sibling meets the block
-pub record Met (h : Regs) (block table : List ℕ) (mask : ℕ) : Type 0 where
+-- a record of the table that the mask selects, and of whose place P holds
+pub record Selected (P : ℕ → Type 0) (table : List ℕ) (mask : ℕ) : Type 0 where
   pub place : ℕ
   pub inside : place < recordsIn (length table)
   pub selected : selects mask table place ≡ true
-  pub meets : Meets h block table place
+  pub holds : P place
+
+-- by a selected record the sibling meets the block
+abbrev pub Met : Regs → List ℕ → List ℕ → ℕ → Type 0
+Met h block table mask = Selected (Meets h block table) table mask
+
+-- the sibling by record i meets the block or, in reduced-round mode only, reaches the block's state from the block's own start
+abbrev pub MeetsIn : Bool → Regs → List ℕ → List ℕ → ℕ → Type 0
+MeetsIn reduced h block table i = Meets h block table i ⊎ ((reduced ≡ true) × Reaches h block table i h)
+
+-- by a selected record it does so
+abbrev pub MetIn : Bool → Regs → List ℕ → List ℕ → ℕ → Type 0
+MetIn reduced h block table mask = Selected (MeetsIn reduced h block table) table mask

@@ -1,34 +1,51 @@
--- What a finish that is not refused has. Assumes nothing.
-use mathlib.Core.Path.{_≡_, refl, sym, ap, _∙_}
-use mathlib.Core.Bool.{Bool, true, false, not, false≢true}
+-- What is known of a finish that is not refused, and that a finish of which this is known is not. Assumes nothing.
+use mathlib.Core.Path.{_≡_, sym, ap, _∙_}
+use mathlib.Core.Bool.{Bool, true}
 use mathlib.Core.List.{List}
 use Prim.Native.Nat.{ℕ}
-use borrow.Author.Tests.{eqb-true}
-use lib.Dec.{eqb}
-use Rattle.word.specs.Choice.{pick}
+use borrow.Author.Tests.{eqb-true, eq-eqb, not-false}
+use lib.Dec.{eqb, lit<}
+use lib.ListN.{length}
 use Rattle.refusal.specs.Refusal.{isNothing}
 use Rattle.refusal.specs.declared.Refusal.{Refusal}
-use Rattle.refusal.specs.declared.Refusal.the-variants.{HasherForm, Size}
-use Rattle.hasher.specs.Hasher.{wellFormed}
-use Rattle.hasher.specs.declared.Hasher.{Hasher}
+use Rattle.refusal.specs.declared.Refusal.the-variants.{Nothing, HasherForm, MaskCount, Size}
 use Rattle.verdict.specs.Verdict.{digestSize}
-use Rattle.finish.specs.Finish.{finishRefusal}
+use Rattle.stream.specs.Flags.{usesMasks}
+use Rattle.hasher.specs.Hasher.{wellFormed, tableRefusal}
+use Rattle.hasher.specs.declared.Hasher.{Hasher}
+use Rattle.hasher.proofs.Taken.{passed, masks-right}
+use Rattle.finish.specs.Finish.{tailBlocks, finishRefusal}
 
 -- what a test whether r is nothing says of the meaning that r equals
 pub tested : {r s : Refusal} {b t : Bool} → r ≡ s → b ≡ isNothing r → b ≡ t → isNothing s ≡ t
 tested e f g = ap isNothing (sym e) ∙ sym f ∙ g
 
--- neither of the first two of a chain of refusals
-passed : (a b : Bool) (r : Refusal) → isNothing (pick (not a) HasherForm (pick (not b) Size r)) ≡ true → (a ≡ true) × (b ≡ true)
-passed true true r e = (refl, refl)
-passed true false r e = absurd (false≢true e)
-passed false b r e = absurd (false≢true e)
+pub record Closing (h : Hasher) (size : ℕ) (table masks : List ℕ) : Type 0 where
+  pub well : wellFormed h ≡ true
+  pub sized : size ≡ digestSize
+  pub counts : usesMasks (h .flags) ≡ true → length masks ≡ tailBlocks (h .fill)
+  pub good : tableRefusal (h .flags) table ≡ Nothing
 
-module _ (h : Hasher) (size : ℕ) (table masks : List ℕ) (e : isNothing (finishRefusal h size table masks) ≡ true) where
-  pub finish-formed : wellFormed h ≡ true
+module _ (h : Hasher) (size : ℕ) (table masks : List ℕ) where
+  pub finish-closing : finishRefusal h size table masks ≡ Nothing → Closing h size table masks
   unfolding finishRefusal
-  finish-formed = passed (wellFormed h) (eqb size digestSize) _ e .0
+  finish-closing e =
+      let p = passed _ HasherForm _ (lit< tt) e in
+      let q = passed _ Size _ (lit< tt) (p .1) in
+      let r = passed _ MaskCount _ (lit< tt) (q .1) in
+      record {
+        well = not-false (wellFormed h) (p .0);
+        sized = eqb-true size digestSize (not-false (eqb size digestSize) (q .0));
+        counts = masks-right (h .flags) (length masks) (tailBlocks (h .fill)) .0 (r .0);
+        good = r .1;
+      }
 
-  pub finish-size : size ≡ digestSize
+  pub closing-finish : Closing h size table masks → finishRefusal h size table masks ≡ Nothing
   unfolding finishRefusal
-  finish-size = eqb-true size digestSize (passed (wellFormed h) (eqb size digestSize) _ e .1)
+  closing-finish a =
+      rw (
+        a .well,
+        eq-eqb size digestSize (a .sized),
+        masks-right (h .flags) (length masks) (tailBlocks (h .fill)) .1 (a .counts),
+        a .good,
+      )

@@ -4,9 +4,7 @@ use mathlib.Core.Bool.{Bool, true, false}
 use mathlib.Core.List.{List, [], _∷_, _++_, append-assoc}
 use Prim.Native.Nat.{ℕ, suc, _+_, _-_, _*_, _/_, _%_, _≤_}
 use native.Mathlib.Omega.{arith}
-use borrow.Author.Tests.{leb-true, leb-false}
-use lib.Dec.{leb}
-use lib.ListN.{length, take, drop, replicate, length-append, length-drop, length-replicate}
+use lib.ListN.{length, take, drop, replicate, length-append, length-replicate}
 use lib.Seq.{take-append-seam, drop-nil, drop-at}
 use Rattle.word.specs.Choice.{pick}
 use Rattle.stream.specs.Fips.{be64, zerosFor, paddingFor, padded, initial}
@@ -16,10 +14,11 @@ use Rattle.stream.specs.declared.Chain.{Chain}
 use Rattle.stream.specs.declared.Flags.{Flags}
 use Rattle.stream.proofs.Folds.{run-masks}
 use Rattle.stream.proofs.Folded.{folded-is, folded-cut}
-use Rattle.hasher.specs.Hasher.{zeroed, moved, advanced, absorbed, freshOf}
+use Rattle.hasher.specs.Hasher.{zeroed, absorbed, freshOf}
+use Rattle.hasher.proofs.Moves.{restOf, rest-length, absorbed-is}
 use Rattle.hasher.proofs.Zeros.{take-replicate}
 use Rattle.finish.specs.Finish.{paddingBytes, tailBlocks, padLen, tailOf, lastChain}
-use Rattle.finish.proofs.Tails.{be64-length}
+use Rattle.finish.proofs.Tails.{tail-room, be64-length}
 
 -- the padding of n bytes, by the f bytes after the last whole block
 record Pad (n f blocks : ℕ) : Type 0 where
@@ -27,12 +26,8 @@ record Pad (n f blocks : ℕ) : Type 0 where
   few : zerosFor n ≤ 63
   whole : f + (1 + zerosFor n + 8) ≡ 64 * blocks
 
-pads : (n f : ℕ) (b : Bool) → leb f 55 ≡ b → f ≡ n % 64 → Pad n f (pick b 1 2)
-pads n f true e h = let a = leb-true f 55 e in record { len = omega arith; few = omega arith; whole = omega arith }
-pads n f false e h = let a = leb-false f 55 e in record { len = omega arith; few = omega arith; whole = omega arith }
-
 pad-of : (n f : ℕ) → f ≡ n % 64 → Pad n f (tailBlocks f)
-pad-of n f h = pads n f (leb f 55) refl h
+pad-of n f h = let r = tail-room f (omega arith) in record { len = omega arith; few = omega arith; whole = omega arith }
 
 -- the last blocks are the pending bytes and the standard's padding
 pub tail-is : (p : List ℕ) (f n : ℕ) → f ≡ n % 64 → tailOf p f n ≡ take f p ++ paddingFor n
@@ -51,13 +46,6 @@ padded-blocks msg =
     let k = pad-of n (n % 64) refl in
     let e = be64-length (8 * n) in
     simp (length-append, length-replicate) (omega arith)
-
--- the bytes of a message after its last whole block
-abbrev pub restOf : List ℕ → List ℕ
-restOf msg = drop (64 * (length msg / 64)) msg
-
-pub rest-length : (msg : List ℕ) → length (restOf msg) ≡ length msg % 64
-rest-length msg = simp length-drop (omega arith)
 
 -- of the masks of two calls, those of the second, and what the first looks at
 masks-second : (on : Bool) (ms ns : List ℕ) (n : ℕ) → (on ≡ true → length ms ≡ n) → drop n (pick on (ms ++ ns) []) ≡ pick on ns []
@@ -81,24 +69,17 @@ folded-lent f table c s e ms ns counts =
     in
     rw (folded-cut f table c s e (lookedAt f (ms ++ ns)), first, masks-second (usesMasks f) ms ns n counts)
 
--- a hasher that took a message from the start
-pub absorbed-is : (f : Flags) (msg table ms : List ℕ)
-    → absorbed (freshOf f) msg table ms
-    ≡ moved (freshOf f) (folded f table (record { words = initial; mark = false }) msg (lookedAt f ms)) (restOf msg) (0 + length msg / 64)
-unfolding absorbed advanced
-absorbed-is f msg table ms = refl
-
--- the chain after its finish is that after the padded message, with the masks of both calls
+-- the chain after the finish of a hasher that took a message from the start is that after the padded message, with the masks of both calls
 pub last-chain-is : (f : Flags) (msg table ms ns : List ℕ) → (usesMasks f ≡ true → length ms ≡ length msg / 64)
     → lastChain (absorbed (freshOf f) msg table ms) table ns
     ≡ folded f table (record { words = initial; mark = false }) (padded msg) (lookedAt f (ms ++ ns))
 unfolding lastChain
 last-chain-is f msg table ms ns counts =
     let e = rest-length msg in
-    let t : (0 + (0 + length msg / 64)) * 64 + length (restOf msg) ≡ length msg = omega arith in
+    let t : (0 + length msg / 64) * 64 + length (restOf msg) ≡ length msg = omega arith in
     let r : take (length (restOf msg)) (zeroed (restOf msg)) ≡ restOf msg = take-append-seam (restOf msg) _ in
     rw (
-      absorbed-is f msg table ms,
+      absorbed-is (freshOf f) msg table ms,
       t,
       tail-is (zeroed (restOf msg)) (length (restOf msg)) (length msg) e,
       r,

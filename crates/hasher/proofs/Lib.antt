@@ -1,3 +1,4 @@
 pub mod Zeros
 pub mod Moves
 pub mod Formed
+pub mod Taken

@@ -2,15 +2,15 @@
 use mathlib.Core.Path.{_≡_, sym, ap, _∙_}
 use mathlib.Core.Bool.{true}
 use mathlib.Core.List.{List, _∷_, _++_, append-assoc, append-nil}
-use Prim.Native.Nat.{ℕ, suc, _+_, _-_, _*_, _/_, _≤_, _<_}
+use Prim.Native.Nat.{ℕ, suc, _+_, _-_, _*_, _/_, _%_, _≤_, _<_}
 use native.Mathlib.Omega.{arith}
 use lib.ListN.{length, getD, take, drop, replicate, length-append, length-drop, drop-of-length-le, take-append-drop}
 use lib.Seq.{drop-cons, drop-drop, drop-append-add, length-take-le, take-length, take-all, paste, length-paste}
 use Rattle.step.specs.Step.{regsOf, fiveOf}
-use Rattle.stream.specs.Fold.{folded}
+use Rattle.stream.specs.Fold.{lookedAt, folded}
 use Rattle.stream.specs.declared.Chain.{Chain}
 use Rattle.stream.proofs.Folded.{folded-none, folded-join}
-use Rattle.hasher.specs.Hasher.{allZero, zeroed, moved, advanced}
+use Rattle.hasher.specs.Hasher.{allZero, chainOf, streamOf, zeroed, moved, advanced, absorbed}
 use Rattle.hasher.specs.declared.Hasher.{Hasher}
 use Rattle.hasher.proofs.Zeros.{zero-all, drop-replicate}
 
@@ -41,6 +41,25 @@ advanced-join h t c n xs ys ms k l =
     let a : k + (n + m) ≡ k + n + m = omega arith in
     let b : 64 * (n + m) ≡ length xs + 64 * m = omega arith in
     rw (folded-join (h .flags) t c n xs ys ms l, e, a, b, drop-append-add xs ys (64 * m))
+
+-- the bytes of a stream after its last whole block
+abbrev pub restOf : List ℕ → List ℕ
+restOf s = drop (64 * (length s / 64)) s
+
+pub rest-length : (s : List ℕ) → length (restOf s) ≡ length s % 64
+rest-length s = simp length-drop (omega arith)
+
+-- the chain after an update
+abbrev pub chainAfter : Hasher → List ℕ → List ℕ → List ℕ → Chain
+chainAfter h bytes table masks = folded (h .flags) table (chainOf h) (streamOf h bytes) (lookedAt (h .flags) masks)
+
+-- what an update that is not refused makes of a hasher
+pub absorbed-is : (h : Hasher) (bytes table masks : List ℕ)
+    → absorbed h bytes table masks ≡ moved h (chainAfter h bytes table masks) (restOf (streamOf h bytes)) (length (streamOf h bytes) / 64)
+unfolding absorbed advanced
+absorbed-is h bytes table masks =
+    let z : 0 + length (streamOf h bytes) / 64 ≡ length (streamOf h bytes) / 64 = omega arith in
+    rw z
 
 -- a stream from a place on, as a part of a slice gives it
 pub tail-is : (s : List ℕ) (at : ℕ) → take (length s - at) (drop at s) ≡ drop at s

@@ -12,8 +12,8 @@ use Rattle.refusal.proofs.Chains.{nothing-is}
 use Rattle.hasher.specs.Hasher.{mostBytes, taken, absorbed, updated}
 use Rattle.hasher.specs.declared.Hasher.{Hasher}
 use Rattle.hasher.specs.declared.Updated.{Updated}
+use Rattle.hasher.proofs.Taken.{update-taken, taken-update}
 use Rattle.claims.specs.Pieces.{Piece, piecewise}
-use Rattle.claims.proofs.Calls.{update-taken, taken-update}
 use Rattle.claims.proofs.After.{sized-after, taken-after}
 use Rattle.claims.proofs.Piecewise.{piecewise-nil, piecewise-cons, first-taken, piecewise-next}
 use Rattle.purserumble.specs.Run.{calls, Fed}

@@ -21,7 +21,7 @@ use Rattle.console.specs.declared.Setting.{Setting}
 use Rattle.console.specs.declared.Word.{Word}
 use Rattle.console.proofs.Settings.{setting-none}
 use Rattle.claims.specs.Pieces.{bytesOf}
-use Rattle.claims.proofs.Every.{none-refused-off, every}
+use Rattle.claims.proofs.Every.{none-refused-off, every-message}
 use Rattle.purserumble.specs.Run.{finishSays, concluded, calls, answerTo, Contents, respondTo}
 use Rattle.purserumble.specs.declared.Answer.{Answer}
 use Rattle.purserumble.proofs.Answered.{asks-none}
@@ -34,7 +34,7 @@ undetected : (f : Flags) (bs : List (List ℕ)) → f .detect ≡ false → leng
     → answerTo f [] bs false ≡ record { saying = Verdict Ok; digest = sha1 (messageOf bs) }
 unfolding answerTo concluded
 undetected f bs off short =
-    rw (none-refused-off f [] (calls bs) [] short off .updates) (ap finishSays (every f [] (calls bs) [] short off))
+    rw (none-refused-off f [] (calls bs) [] short off .updates) (ap finishSays (every-message f [] (calls bs) [] short off))
 
 -- With no bad argument and no table, a message that is read to its end has the verdict ok and FIPS 180-4's digest, in whatever pieces it comes.
 pub no-table : (ws : List Word) (file : Contents) (bs : List (List ℕ)) → settingOf ws .bad ≡ false → settingOf ws .table ≡ false

@@ -1,6 +1,7 @@
 -- `finish::finish_and_reset` meets its contract. Assumes nothing.
+use Rattle.refusal.proofs.Chains.{nothing-is}
 use Rattle.finish.specs.Finish.{closed, writtenOut}
-use Rattle.finish.proofs.Closing.{tested, finish-formed, finish-size}
+use Rattle.finish.proofs.Closing.{tested, finish-closing}
 use borrow.Author.Needs.{needs}
 use Rattle.finish.proofs.finish_and_reset.Statement.{statement}
 use Rattle.finish.proofs.finish_and_reset.Tie as tie
@@ -14,7 +15,7 @@ is-nothing-requires c κs = search needs
 last-chain-requires : tie.Need-last-chain-requires
 last-chain-requires c κs =
     let r = c .before .before in
-    finish-formed _ _ _ _ (tested (r .finish-refusal .ensures) (c .before .is-nothing .ensures) (c .if1 .taken))
+    finish-closing _ _ _ _ (nothing-is _ (tested (r .finish-refusal .ensures) (c .before .is-nothing .ensures) (c .if1 .taken))) .well
 
 digest-requires : tie.Need-digest-requires
 digest-requires c κs = search needs
@@ -22,7 +23,7 @@ digest-requires c κs = search needs
 put-requires : tie.Need-put-requires
 put-requires c κs =
     let i = c .before .before .before .before in
-    finish-size _ _ _ _ (tested (i .before .before .finish-refusal .ensures) (i .before .is-nothing .ensures) (i .if1 .taken))
+    finish-closing _ _ _ _ (nothing-is _ (tested (i .before .before .finish-refusal .ensures) (i .before .is-nothing .ensures) (i .if1 .taken))) .sized
 
 verdict-of-requires : tie.Need-verdict-of-requires
 verdict-of-requires c κs = search needs

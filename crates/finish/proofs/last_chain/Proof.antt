@@ -1,7 +1,6 @@
 -- `finish::last_chain` meets its contract. Assumes nothing.
 use mathlib.Core.Path.{sym}
 use native.Mathlib.Omega.{arith}
-use lib.ListN.{length, take}
 use lib.Seq.{length-take-le}
 use Rattle.finish.specs.Finish.{lastChain}
 use Rattle.hasher.proofs.Formed.{formed}

@@ -2,10 +2,11 @@
 use mathlib.Core.Path.{sym}
 use native.Mathlib.Omega.{arith}
 use lib.Seq.{length-take-le}
+use Rattle.refusal.proofs.Chains.{nothing-is}
 use Rattle.hasher.proofs.Moves.{tail-is}
 use Rattle.finish.specs.Finish.{digested}
 use Rattle.finish.proofs.Closing.{tested}
-use Rattle.finish.proofs.Whole.{Whole, whole, fed-formed, fed-chain}
+use Rattle.finish.proofs.Whole.{Whole, shot-whole, fed-formed, fed-chain}
 use borrow.Author.Needs.{needs}
 use Rattle.finish.proofs.one_shot.Statement.{statement}
 use Rattle.finish.proofs.one_shot.Tie as tie
@@ -15,7 +16,7 @@ held : (c : tie.Then1)
     → Whole (c .before .before .before .before .before .before .args .bytes .now) (c .before .before .before .before .before .before .args .table .now) (c .before .before .before .before .before .before .args .masks .now)
 held c =
     let r = c .before .before in
-    whole _ _ _ (tested (r .one-shot-refusal .ensures) (c .before .is-nothing .ensures) (c .if1 .taken))
+    shot-whole _ _ _ (nothing-is _ (tested (r .one-shot-refusal .ensures) (c .before .is-nothing .ensures) (c .if1 .taken)))
 
 one-shot-refusal-requires : tie.Need-one-shot-refusal-requires
 one-shot-refusal-requires c κs = search needs

@@ -1,9 +1,9 @@
 -- `hasher::update` meets its contract. Assumes nothing.
 use mathlib.Core.Path.{_≡_, sym, ap, _∙_}
-use borrow.Author.Tests.{ltb-false}
 use Rattle.refusal.specs.Refusal.{isNothing}
 use Rattle.hasher.specs.Hasher.{updateRefusal, updated}
-use Rattle.hasher.proofs.Formed.{accepted, formed}
+use Rattle.hasher.proofs.Formed.{formed}
+use Rattle.hasher.proofs.Taken.{refusal-is, update-taken}
 use Rattle.refusal.proofs.Chains.{nothing-is}
 use borrow.Author.Needs.{needs}
 use Rattle.hasher.proofs.update.Statement.{statement}
@@ -23,9 +23,9 @@ tested c = c .is-nothing .ensures ∙ ap isNothing (c .before .update-refusal .e
 absorb-requires : tie.Need-absorb-requires
 absorb-requires c κs =
     let a = c .before .before .before .before .before .before .args in
-    let r = accepted (a .h) (a .bytes .now) (a .table .now) (a .masks .now) (nothing-is _ (sym (tested (c .before)) ∙ c .if1 .taken)) in
+    let r = update-taken (a .h) (a .bytes .now) (a .table .now) (a .masks .now) (refusal-is _ _ _ _ ∙ nothing-is _ (sym (tested (c .before)) ∙ c .if1 .taken)) in
     let f = formed (a .h) (r .well) in
-    record { fill-le = f .fill-le; zeros = f .zeros; fits = ltb-false _ _ (r .short) }
+    record { fill-le = f .fill-le; zeros = f .zeros; fits = r .fits }
 
 returns : tie.Need-returns
 unfolding updated

@@ -1,5 +1,6 @@
--- What is known where a call is not refused, and that a call of which all that is known is not. Assumes nothing.
+-- What is known of an update that is not refused, and that an update of which this is known is not. Assumes nothing.
 use mathlib.Core.Path.{_≡_, refl, sym, ap, _∙_}
+use mathlib.Core.Logic.{_↔_}
 use mathlib.Core.Bool.{Bool, true, false, not, _&&_, false≢true}
 use mathlib.Core.List.{List}
 use Prim.Native.Nat.{ℕ, _+_, _≤_, _<_}
@@ -8,30 +9,36 @@ use borrow.Author.Tests.{ltb-false, le-ltb, eq-eqb, eqb-true, not-false}
 use lib.Dec.{eqb, lit<}
 use lib.ListN.{length}
 use Rattle.word.specs.Choice.{pick}
-use Rattle.refusal.specs.Refusal.{numberOf}
+use Rattle.refusal.specs.Refusal.{numberOf, isNothing}
 use Rattle.refusal.specs.declared.Refusal.{Refusal}
 use Rattle.refusal.specs.declared.Refusal.the-variants.{Nothing, HasherForm, MaskCount, MessageLength}
+use Rattle.refusal.proofs.Chains.{nothing-is}
 use Rattle.stream.specs.Flags.{usesMasks}
-use Rattle.hasher.specs.Hasher.{mostBytes, wellFormed, taken, blocksFilled, tableRefusal, updateRefusal, absorbed, updated}
+use Rattle.stream.specs.declared.Flags.{Flags}
+use Rattle.hasher.specs.Hasher.{mostBytes, wellFormed, taken, blocksFilled, masksWrong, tableRefusal, updateRefusal, absorbed, updated}
 use Rattle.hasher.specs.declared.Hasher.{Hasher}
-use Rattle.verdict.specs.Verdict.{digestSize}
-use Rattle.finish.specs.Finish.{tailBlocks, finishRefusal}
 
 -- a test in front of the other refusals did not refuse
 pub passed : (b : Bool) (x r : Refusal) → 0 < numberOf x → pick b x r ≡ Nothing → (b ≡ false) × (r ≡ Nothing)
 passed false x r n e = (refl, e)
 passed true x r n e = absurd (omega (arith, ap numberOf e))
 
--- the masks counted, where they are looked at
-pub counted : (on : Bool) (k n : ℕ) → (on && not (eqb k n)) ≡ false → on ≡ true → k ≡ n
-counted true k n e h = eqb-true k n (not-false (eqb k n) e)
-counted false k n e h = absurd (false≢true h)
+-- of what is given with a refusal or without one: what holds in both cases holds
+pub of-refusal : {A : Type 0} (P : A → Type 0) (r : Refusal) (x y : A) → (r ≡ Nothing → P x) → (isNothing r ≡ false → P y) → P (pick (isNothing r) x y)
+of-refusal {A = A} P r x y p q = by (isNothing r) refl
+  where
+    by : (b : Bool) → isNothing r ≡ b → P (pick b x y)
+    by true e = p (nothing-is r e)
+    by false e = q e
 
-pub count : (on : Bool) (k n : ℕ) → (on ≡ true → k ≡ n) → (on && not (eqb k n)) ≡ false
-count true k n h = ap not (eq-eqb k n (h refl))
-count false k n h = refl
+right : (on : Bool) (k n : ℕ) → ((on && not (eqb k n)) ≡ false) ↔ (on ≡ true → k ≡ n)
+right true k n = (λ e u. eqb-true k n (not-false (eqb k n) e), λ h. ap not (eq-eqb k n (h refl)))
+right false k n = (λ e u. absurd (false≢true u), λ h. refl)
 
--- an update that is not refused
+-- the number of masks is not wrong exactly when it is the number of blocks, where masks are looked at
+pub masks-right : (f : Flags) (k n : ℕ) → (masksWrong f k n ≡ false) ↔ (usesMasks f ≡ true → k ≡ n)
+masks-right f k n = right (usesMasks f) k n
+
 pub record Taken (h : Hasher) (bytes table masks : List ℕ) : Type 0 where
   pub well : wellFormed h ≡ true
   pub fits : taken h + length bytes ≤ mostBytes
@@ -52,7 +59,7 @@ module _ (h : Hasher) (bytes table masks : List ℕ) where
       record {
         well = not-false (wellFormed h) (p .0);
         fits = ltb-false mostBytes (taken h + length bytes) (q .0);
-        counts = counted (usesMasks (h .flags)) (length masks) (blocksFilled h (length bytes)) (r .0);
+        counts = masks-right (h .flags) (length masks) (blocksFilled h (length bytes)) .0 (r .0);
         good = r .1;
       }
 
@@ -63,29 +70,6 @@ module _ (h : Hasher) (bytes table masks : List ℕ) where
       rw (
         a .well,
         le-ltb mostBytes (taken h + length bytes) (a .fits),
-        count (usesMasks (h .flags)) (length masks) (blocksFilled h (length bytes)) (a .counts),
+        masks-right (h .flags) (length masks) (blocksFilled h (length bytes)) .1 (a .counts),
         a .good,
       )
-
--- a finish that is not refused
-pub record Closing (h : Hasher) (table masks : List ℕ) : Type 0 where
-  pub well : wellFormed h ≡ true
-  pub counts : usesMasks (h .flags) ≡ true → length masks ≡ tailBlocks (h .fill)
-  pub good : tableRefusal (h .flags) table ≡ Nothing
-
-module _ (h : Hasher) (table masks : List ℕ) where
-  pub finish-closing : finishRefusal h digestSize table masks ≡ Nothing → Closing h table masks
-  unfolding finishRefusal
-  finish-closing e =
-      let p = passed _ HasherForm _ (lit< tt) e in
-      let r = passed _ MaskCount _ (lit< tt) (p .1) in
-      record {
-        well = not-false (wellFormed h) (p .0);
-        counts = counted (usesMasks (h .flags)) (length masks) (tailBlocks (h .fill)) (r .0);
-        good = r .1;
-      }
-
-  pub closing-finish : Closing h table masks → finishRefusal h digestSize table masks ≡ Nothing
-  unfolding finishRefusal
-  closing-finish a =
-      rw (a .well, count (usesMasks (h .flags)) (length masks) (tailBlocks (h .fill)) (a .counts), a .good)

@@ -8,42 +8,24 @@ use detect::OneBlock;
 use detect::one_block;
 use file::file_fault;
 use file::file_words;
-use libc::STDOUT_FILENO;
 use refusal::is_nothing;
 use refusal::number;
 use refusal::place;
-
-fn say(text: &[u8]) {
-    io::write_all(STDOUT_FILENO, text);
-}
-
-fn say_decimal(n: usize) {
-    io::print_decimal(STDOUT_FILENO, n as u64);
-}
-
-fn say_word(x: u32) {
-    io::print_hex(STDOUT_FILENO, x as u64, 8);
-    say(b" ");
-}
-
-fn say_words(w: [u32; 5]) {
-    say_word(w[0]);
-    say_word(w[1]);
-    say_word(w[2]);
-    say_word(w[3]);
-    say_word(w[4]);
-}
+use show::say;
+use show::say_decimal;
+use show::say_refusal;
+use show::say_words;
 
 fn say_found(f: Found) {
     if f.mark {
         say(b"marked by ");
-        say_decimal(f.place);
+        say_decimal(f.place as u64);
     } else {
         say(b"unmarked, place ");
-        say_decimal(f.place);
+        say_decimal(f.place as u64);
     }
     say(b", tried ");
-    say_decimal(f.tried);
+    say_decimal(f.tried as u64);
 }
 
 // The refusal's number and place, the words, and what was found.
@@ -54,10 +36,7 @@ fn show(case: &[u8], b: OneBlock) {
     say(case);
     say(b": ");
     if !is_nothing(r) {
-        say(b"refused ");
-        say_decimal(number(r) as usize);
-        say(b" at ");
-        say_decimal(place(r));
+        say_refusal(r);
         say(b", ");
     }
     say_words(w);
@@ -239,11 +218,11 @@ fn modes(m: &[u8], i: usize, table: &[u32], mask: u32) {
 fn file_of(bytes: &[u8], n: usize) {
     let r = file_fault(part(bytes, n));
     say(b"file of ");
-    say_decimal(n);
+    say_decimal(n as u64);
     say(b" bytes: ");
-    say_decimal(number(r) as usize);
+    say_decimal(number(r) as u64);
     say(b" at ");
-    say_decimal(place(r));
+    say_decimal(place(r) as u64);
     say(b"\n");
 }
 

@@ -1,5 +1,8 @@
 // A message given to a hasher in pieces, with the masks of its blocks lent to each call.
+ghost use mathlib.Core.Path.{_≡_};
 ghost use Prim.Native.Nat.{_<_, _≤_};
+ghost use lib.ListN.{length};
+ghost use Rattle.hasher_run.specs.Cut.{lentOf, blocksOf, pieceOf, nextOf, takenOf, finishedOf, closedOf, outOf, digestedOf};
 use finish::Closed;
 use finish::Digested;
 use finish::Finished;
@@ -16,7 +19,9 @@ pub struct Cut {
 }
 
 // The masks of the blocks from `from` to `to`, or all of them where there are not so many.
-fn lent(masks: &[u32], from: usize, to: usize) -> &[u32] {
+fn lent(masks: &[u32], from: usize, to: usize) -> &[u32]
+    ensures { λ r. ⌜ now r ≡ lentOf (now (masks .entry)) from to ⌝ }
+{
     if to < from {
         return masks;
     }
@@ -27,7 +32,9 @@ fn lent(masks: &[u32], from: usize, to: usize) -> &[u32] {
 }
 
 // How many blocks a message of n bytes makes, padding included.
-fn blocks_of(n: usize) -> usize {
+fn blocks_of(n: usize) -> usize
+    ensures { λ r. ⌜ r ≡ blocksOf n ⌝ }
+{
     if n % 64 <= 55 {
         return n / 64 + 1;
     }
@@ -37,6 +44,7 @@ fn blocks_of(n: usize) -> usize {
 // Where a piece of n bytes ends, at least one byte on and never past the end.
 fn next(at: usize, end: usize, n: usize) -> usize
     requires { ⌜ at < end ⌝ }
+    ensures { λ r. ⌜ r ≡ nextOf at end n ⌝ }
     ensures { λ r. ⌜ at < r ⌝ }
     ensures { λ r. ⌜ r ≤ end ⌝ }
 {
@@ -50,13 +58,17 @@ fn next(at: usize, end: usize, n: usize) -> usize
 }
 
 // One piece. Where it is refused the hasher is as it was, and the digest will not be the message's.
-fn piece(h: Hasher, bytes: &[u8], table: &[u32], masks: &[u32]) -> Hasher {
+fn piece(h: Hasher, bytes: &[u8], table: &[u32], masks: &[u32]) -> Hasher
+    ensures { λ r. ⌜ r ≡ pieceOf h (now (bytes .entry)) (now (table .entry)) (now (masks .entry)) ⌝ }
+{
     let u = update(h, bytes, table, masks);
     u.hasher
 }
 
 // The hasher after a message in pieces.
-pub fn taken(h: Hasher, m: &[u8], cut: Cut, table: &[u32], masks: &[u32]) -> Hasher {
+pub(crate) fn taken(h: Hasher, m: &[u8], cut: Cut, table: &[u32], masks: &[u32]) -> Hasher
+    ensures { λ r. ⌜ r ≡ takenOf h (now (m .entry)) (cut .first) (cut .then) (now (table .entry)) (now (masks .entry)) ⌝ }
+{
     let mut g = h;
     let mut at = 0;
     let mut size = cut.first;
@@ -73,18 +85,24 @@ pub fn taken(h: Hasher, m: &[u8], cut: Cut, table: &[u32], masks: &[u32]) -> Has
 }
 
 // The finish of a message of n bytes.
-pub fn finished(h: Hasher, n: usize, table: &[u32], masks: &[u32]) -> Finished {
+pub(crate) fn finished(h: Hasher, n: usize, table: &[u32], masks: &[u32]) -> Finished
+    ensures { λ r. ⌜ r ≡ finishedOf h n (now (table .entry)) (now (masks .entry)) ⌝ }
+{
     finish(h, table, lent(masks, n / 64, blocks_of(n)))
 }
 
 // A message in one piece, and a finish-and-reset.
-pub fn closed(h: Hasher, m: &[u8], out: &mut [u8], table: &[u32], masks: &[u32]) -> Closed {
+pub(crate) fn closed(h: Hasher, m: &[u8], out: &mut [u8], table: &[u32], masks: &[u32]) -> Closed
+    ensures { λ r. ⌜ (r ≡ closedOf h (now (m .entry)) (length (now (out .entry))) (now (table .entry)) (now (masks .entry))) × (now (out .exit) ≡ outOf h (now (m .entry)) (now (out .entry)) (now (table .entry)) (now (masks .entry))) ⌝ }
+{
     let n = m.len();
     let g = piece(h, m, table, lent(masks, 0, n / 64));
     finish_and_reset(g, out, table, lent(masks, n / 64, blocks_of(n)))
 }
 
 // A message by the one-shot form.
-pub fn digested(m: &[u8], table: &[u32], masks: &[u32]) -> Digested {
+pub(crate) fn digested(m: &[u8], table: &[u32], masks: &[u32]) -> Digested
+    ensures { λ r. ⌜ r ≡ digestedOf (now (m .entry)) (now (table .entry)) (now (masks .entry)) ⌝ }
+{
     one_shot(m, table, lent(masks, 0, blocks_of(m.len())))
 }

@@ -65,7 +65,7 @@ fn a_million() -> [u8; 1000000]
     [0x61; 1000000]
 }
 
-pub fn run(real: &[u32], control: &[u32], ones: &[u32], zeros: &[u32]) {
+pub(crate) fn run(real: &[u32], control: &[u32], ones: &[u32], zeros: &[u32]) {
     let two = b"abcdbcdecdefdefgefghfghighijhijkijkljklmklmnlmnomnopnopq";
     let million = a_million();
     modes(b"the empty message\n", b"", real, ones);

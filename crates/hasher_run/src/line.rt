@@ -20,7 +20,7 @@ fn flags_of(bits: usize) -> Flags {
 }
 
 // The finish of a hasher after n bytes.
-pub fn say_finish(h: Hasher, n: usize, table: &[u32], masks: &[u32]) {
+pub(crate) fn say_finish(h: Hasher, n: usize, table: &[u32], masks: &[u32]) {
     let f = finished(h, n, table, masks);
     let o = f.outcome;
     let digest = f.digest;
@@ -36,7 +36,7 @@ fn say_close(flags: Flags, m: &[u8], table: &[u32], masks: &[u32]) {
 }
 
 // A message by the one-shot form.
-pub fn at_once(case: &[u8], m: &[u8], table: &[u32], masks: &[u32]) {
+pub(crate) fn at_once(case: &[u8], m: &[u8], table: &[u32], masks: &[u32]) {
     let d = digested(m, table, masks);
     let o = d.outcome;
     let digest = d.digest;
@@ -46,7 +46,14 @@ pub fn at_once(case: &[u8], m: &[u8], table: &[u32], masks: &[u32]) {
 }
 
 // A message in pieces.
-pub fn in_pieces(case: &[u8], flags: Flags, m: &[u8], cut: Cut, table: &[u32], masks: &[u32]) {
+pub(crate) fn in_pieces(
+    case: &[u8],
+    flags: Flags,
+    m: &[u8],
+    cut: Cut,
+    table: &[u32],
+    masks: &[u32],
+) {
     let h = taken(Hasher::new(flags), m, cut, table, masks);
     say(case);
     say_finish(h, m.len(), table, masks);
@@ -74,7 +81,7 @@ fn each_mode(m: &[u8], table: &[u32], masks: &[u32]) {
 }
 
 // A message under every setting of the flags, and by the one-shot form.
-pub fn modes(title: &[u8], m: &[u8], table: &[u32], masks: &[u32]) {
+pub(crate) fn modes(title: &[u8], m: &[u8], table: &[u32], masks: &[u32]) {
     say(title);
     each_mode(m, table, masks);
     at_once(b"  one-shot: ", m, table, masks);

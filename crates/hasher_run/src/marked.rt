@@ -12,7 +12,7 @@ use show::say_hasher;
 use stream::Flags;
 
 // The control record marks every block that selects it.
-pub fn control_record(control: &[u32], ones: &[u32], zeros: &[u32]) {
+pub(crate) fn control_record(control: &[u32], ones: &[u32], zeros: &[u32]) {
     let m = b"hello world";
     modes(b"hello world, control record\n", m, control, ones);
     modes(b"hello world, control record, mask 0\n", m, control, zeros);
@@ -31,7 +31,7 @@ fn masks_but(i: usize, mask: u32, rest: u32) -> [u32; 6]
 }
 
 // A file whose block i is marked by vector 27: with only that vector selected for the block, and with all others.
-pub fn file(title: &[u8], m: &[u8], i: usize, real: &[u32], zeros: &[u32]) {
+pub(crate) fn file(title: &[u8], m: &[u8], i: usize, real: &[u32], zeros: &[u32]) {
     let only = masks_but(i, 0x08000000, 0);
     let others = masks_but(i, 0xF7FFFFFF, 0xFFFFFFFF);
     say(title);
@@ -53,7 +53,7 @@ fn end(case: &[u8], h: Hasher, n: usize, real: &[u32], ones: &[u32]) {
 }
 
 // A marked block and clean ones behind it: the mark stays until the reset, the flags stay after it.
-pub fn stays(title: &[u8], flags: Flags, m: &[u8], real: &[u32], ones: &[u32]) {
+pub(crate) fn stays(title: &[u8], flags: Flags, m: &[u8], real: &[u32], ones: &[u32]) {
     let cut = Cut {
         first: 100,
         then: 29,

@@ -183,7 +183,7 @@ fn one_shot(title: &[u8], file: &[u8], table: &[u32], masks: &[u32]) {
     );
 }
 
-pub fn run(file: &[u8], real: &[u32], control: &[u32], ones: &[u32], zeros: &[u32]) {
+pub(crate) fn run(file: &[u8], real: &[u32], control: &[u32], ones: &[u32], zeros: &[u32]) {
     let on = Flags::new();
     cuts(
         b"short messages, detection off\n",

@@ -1,4 +1,4 @@
-// What the programs that run the hasher write. No function here has a result: each only writes to standard output.
+// What the programs that run the library write. No function here has a result: each only writes to standard output.
 use finish::Outcome;
 use hasher::Hasher;
 use libc::STDOUT_FILENO;
@@ -33,7 +33,8 @@ fn say_word(x: u32) {
     say(b" ");
 }
 
-fn say_words(w: [u32; 5]) {
+// Five words in hex, each with a space behind it.
+pub fn say_words(w: [u32; 5]) {
     say_word(w[0]);
     say_word(w[1]);
     say_word(w[2]);

@@ -10,7 +10,7 @@ use crate::given::with_word;
 use stream::Flags;
 
 // Number 1.
-pub fn forms(e: Entry, table: &[u32], masks: &[u32]) {
+pub(crate) fn forms(e: Entry, table: &[u32], masks: &[u32]) {
     let on = Flags::new();
     let off = on.detect_collision(false);
     call(e, b"fill 64", hasher_of(64, 7, 0, on, false), table, masks);
@@ -93,7 +93,7 @@ fn order(e: Entry) {
 }
 
 // All that an entry point can refuse of table and masks.
-pub fn lent(e: Entry, t: &[u32], masks: &[u32]) {
+pub(crate) fn lent(e: Entry, t: &[u32], masks: &[u32]) {
     mask_counts(e, t, masks);
     table_lengths(e, t, front(masks, 1));
     records(e);
@@ -101,7 +101,7 @@ pub fn lent(e: Entry, t: &[u32], masks: &[u32]) {
 }
 
 // What is not looked at is not refused.
-pub fn unseen(e: Entry, t: &[u32], masks: &[u32]) {
+pub(crate) fn unseen(e: Entry, t: &[u32], masks: &[u32]) {
     let on = Flags::new();
     let off = middle(on.detect_collision(false));
     let all = middle(on.use_ubc(false));

@@ -56,15 +56,15 @@ fn said(entry: &[u8], case: &[u8], given: Hasher, u: Updated) {
     say_back(given, back);
 }
 
-pub fn by_update(case: &[u8], h: Hasher, m: &[u8], table: &[u32], masks: &[u32]) {
+pub(crate) fn by_update(case: &[u8], h: Hasher, m: &[u8], table: &[u32], masks: &[u32]) {
     said(b"update", case, h, update(h, m, table, masks));
 }
 
-pub fn in_place(case: &[u8], h: Hasher, m: &[u8], table: &[u32], masks: &[u32]) {
+pub(crate) fn in_place(case: &[u8], h: Hasher, m: &[u8], table: &[u32], masks: &[u32]) {
     said(b"update in place", case, h, through(h, m, table, masks));
 }
 
-pub fn by_finish(case: &[u8], h: Hasher, table: &[u32], masks: &[u32]) {
+pub(crate) fn by_finish(case: &[u8], h: Hasher, table: &[u32], masks: &[u32]) {
     let f = finish(h, table, masks);
     let o = f.outcome;
     let digest = f.digest;
@@ -81,7 +81,7 @@ fn say_out(o: Outcome, out: &[u8; 24]) {
 }
 
 // The output is lent as the front of 24 bytes.
-pub fn by_close(case: &[u8], h: Hasher, size: usize, table: &[u32], masks: &[u32]) {
+pub(crate) fn by_close(case: &[u8], h: Hasher, size: usize, table: &[u32], masks: &[u32]) {
     let mut out = [0xA5u8; 24];
     if 24 < size {
         return;
@@ -94,7 +94,7 @@ pub fn by_close(case: &[u8], h: Hasher, size: usize, table: &[u32], masks: &[u32
     say_back(h, g);
 }
 
-pub fn at_once(case: &[u8], m: &[u8], table: &[u32], masks: &[u32]) {
+pub(crate) fn at_once(case: &[u8], m: &[u8], table: &[u32], masks: &[u32]) {
     let d = one_shot(m, table, masks);
     let o = d.outcome;
     let digest = d.digest;
@@ -104,7 +104,7 @@ pub fn at_once(case: &[u8], m: &[u8], table: &[u32], masks: &[u32]) {
 }
 
 // An entry point on what makes one block of a hasher with 3 pending bytes, and so wants one mask.
-pub fn call(e: Entry, case: &[u8], h: Hasher, table: &[u32], masks: &[u32]) {
+pub(crate) fn call(e: Entry, case: &[u8], h: Hasher, table: &[u32], masks: &[u32]) {
     let m = [0x78u8; 61];
     match e {
         Entry::Update => by_update(case, h, &m, table, masks),

@@ -1,10 +1,10 @@
--- `hasher_run2::given::controls` meets its contract. Assumes nothing.
+-- `refusal_run::given::controls` meets its contract. Assumes nothing.
 use mathlib.Core.Path.{_≡_}
 use Prim.Native.Nat.{_-_, _≤_}
 use lib.ListN.{length}
 use borrow.Author.Needs.{needs}
-use Rattle.hasher_run2.proofs.given.controls.Statement.{statement}
-use Rattle.hasher_run2.proofs.given.controls.Tie as tie
+use Rattle.refusal_run.proofs.given.controls.Statement.{statement}
+use Rattle.refusal_run.proofs.given.controls.Tie as tie
 
 abbrev Inv-loop : tie.InvT-loop
 Inv-loop t₀ i₀ t i = (i ≤ 33) × (2706 ≡ length t)

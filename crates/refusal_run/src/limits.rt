@@ -117,7 +117,7 @@ fn sizes(table: &[u32], masks: &[u32]) {
     one_shots(&m, table, masks);
 }
 
-pub fn run(table: &[u32], masks: &[u32]) {
+pub(crate) fn run(table: &[u32], masks: &[u32]) {
     let on = Flags::new();
     lengths(on.detect_collision(false), front(table, 0), masks);
     lengths(on, table, masks);

@@ -1,0 +1,29 @@
+// How a program uses the library: a message in two pieces, each block tried with every vector of a lent table. The
+// table is the control record, which marks every block.
+use finish::finish;
+use hasher::Hasher;
+use hasher::update;
+use refusal::is_nothing;
+use show::say;
+use show::say_answer;
+use show::say_refusal;
+use stream::Flags;
+
+fn main() {
+    let mut table = [0u32; 82];
+    table[1] = 58;
+    let flags = Flags::new().use_ubc(false);
+    let none = [0u32; 1];
+    let first = update(Hasher::new(flags), b"hello ", &table, &none[0..0]);
+    let second = update(first.hasher, b"world", &table, &none[0..0]);
+    let r = second.refusal;
+    if !is_nothing(r) {
+        say_refusal(r);
+        return;
+    }
+    let f = finish(second.hasher, &table, &none[0..0]);
+    let outcome = f.outcome;
+    let digest = f.digest;
+    say_answer(outcome, &digest);
+    say(b"\n");
+}

@@ -43,11 +43,17 @@ refusedSign = 0x72 ∷ 0x65 ∷ 0x66 ∷ 0x75 ∷ 0x73 ∷ 0x65 ∷ 0x64 ∷ []
 unfoldable pub refusedText : ℕ → List ℕ
 refusedText n = refusedSign ++ (space ∷ []) ++ decimalOf n
 
--- the text for what is said: a verdict with its digest, or a refusal's number; what could not be read is 16
+-- the number in 01 of what is said: 0 for a verdict, a refusal's own, and 16 for what could not be read
+abbrev pub sayingNumber : Saying → ℕ
+sayingNumber (Verdict v) = 0
+sayingNumber (Refused r) = numberOf r
+sayingNumber Unread = 16
+
+-- the text for what is said: a verdict with its digest, or the number of what is refused
 abbrev pub textOf : Saying → List ℕ → List ℕ
 textOf (Verdict v) digest = verdictText (wordFor v) digest
-textOf (Refused r) digest = refusedText (numberOf r)
-textOf Unread digest = refusedText 16
+textOf (Refused r) digest = refusedText (sayingNumber (Refused r))
+textOf Unread digest = refusedText (sayingNumber Unread)
 
 -- a text and a newline
 abbrev pub ended : List ℕ → List ℕ

@@ -13,6 +13,9 @@ use stream::Flags;
 use stream::Masks;
 use verdict::Verdict;
 
+// The number of what could not be taken in.
+const UNREAD: u32 = 16;
+
 // What an argument is.
 pub enum Word {
     // `table=FILE`. With nothing after the sign it names a file that cannot be read.
@@ -32,7 +35,7 @@ pub struct Setting {
 pub enum Saying {
     Verdict(Verdict),
     Refused(Refusal),
-    // 16: an argument, the table file or the message could not be taken in.
+    // An argument, the table file or the message could not be taken in.
     Unread,
 }
 
@@ -246,6 +249,6 @@ pub fn line_of(s: Saying, digest: [u8; 20]) -> Line
     match s {
         Saying::Verdict(v) => said_line(v, digest),
         Saying::Refused(r) => refused_line(number(r)),
-        Saying::Unread => refused_line(16),
+        Saying::Unread => refused_line(UNREAD),
     }
 }

@@ -1,6 +1,6 @@
 -- What stores leave in a lent slice, and bounds of the numbers that are stored. Assumes nothing.
-use mathlib.Core.Path.{_≡_, refl, sym, ap, _∙_}
-use mathlib.Core.Bool.{Bool, true, false, not, _&&_}
+use mathlib.Core.Path.{_≡_, sym, ap, _∙_}
+use mathlib.Core.Bool.{Bool, true, false}
 use mathlib.Core.List.{List, [], _∷_, _++_, append-nil}
 use Prim.Native.Nat.{ℕ, _+_, _≤_, _<_}
 use native.Mathlib.Nat.{zero-add}
@@ -8,10 +8,7 @@ use native.Mathlib.Numerals.{add-one}
 use native.Mathlib.Omega.{arith}
 use lib.ListN.{length, getD, set, take, drop}
 use lib.Seq.{sets, sets-eq, drop-length, take-suc, take-suc-set, take-all}
-use borrow.Author.Tests.{not-true, not-false, eqb-true}
-use lib.Dec.{eqb}
-use Rattle.word.proofs.Tests.{both-true}
-use Rattle.export.specs.Lent.{bitOf, hasherFits}
+use Rattle.export.specs.Layout.{bitOf}
 
 -- every element stored, from the first on
 pub filled : (vs l : List ℕ) → length l ≡ length vs → sets l 0 vs ≡ vs
@@ -36,17 +33,3 @@ bit-le false = omega arith
 
 pub at-most-one : {n : ℕ} (b : Bool) → n ≡ bitOf b → n ≤ 1
 at-most-one b e = rw e (bit-le b)
-
--- what the code's test of a hasher's lengths says
-module _ (w p s : ℕ) {b : Bool} (e : b ≡ hasherFits w p s) where
-  pub unfit : not b ≡ true → hasherFits w p s ≡ false
-  unfit h = sym e ∙ not-true b h
-
-  pub fit : not b ≡ false → hasherFits w p s ≡ true
-  fit h = sym e ∙ not-false b h
-
-  pub lengths : not b ≡ false → (w ≡ 5) × (p ≡ 64) × (s ≡ 4)
-  lengths h =
-      let f = both-true (eqb w 5) (eqb p 64 && eqb s 4) (fit h) in
-      let g = both-true (eqb p 64) (eqb s 4) (f .1) in
-      (eqb-true w 5 (f .0), eqb-true p 64 (g .0), eqb-true s 4 (g .1))

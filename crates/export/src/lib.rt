@@ -2,25 +2,30 @@
 // Where a slice has another length than the fixed one, a call returns 255 and changes nothing: no other number is
 // above 16, and a caller that breaks the agreement on lengths is told so instead of being trapped.
 ghost use mathlib.Core.Path.{_≡_};
+ghost use mathlib.Core.Bool.{_&&_};
 ghost use mathlib.Core.List.{[], _∷_};
 ghost use Prim.Native.Nat.{_<_};
+ghost use lib.Dec.{eqb};
 ghost use lib.ListN.{length};
 ghost use Rattle.stream.specs.Flags.{isLent};
-ghost use Rattle.sheet.specs.Sheet.{recordFor, partFrom};
+ghost use Rattle.refusal.specs.Refusal.{numberOf};
+ghost use Rattle.verdict.specs.Verdict.{digestSize};
+ghost use Rattle.finish.specs.Finish.{outcomeRefusal};
 ghost use Rattle.sheet.specs.Compare.{comparedNumber};
-ghost use Rattle.export.specs.Lent.{bitOf, hasWorth, flagsIn, flagsNumber, hasherIn, stateOf, hasherFits, verdictNumber, verdictFor};
-ghost use Rattle.export.specs.Calls.{left, refusalIn, verdictIn, comparisonIn, blockCall, updateCall, resetCall, finishCall, oneShotCall, closeCall, tableCall, lookupCall, compareCall};
+ghost use Rattle.export.specs.Layout.{bitOf, hasWorth, flagsIn, flagsNumber, hasherIn, stateOf, hasherFits, verdictNumber, verdictFor};
+ghost use Rattle.export.specs.Calls.{left, answerPair, verdictIn, outcomeAnswer, comparisonIn, updatedLeft, digestLeft, blockCall, updateCall, resetCall, finishCall, oneShotCall, closeCall, tableCall, lookupCall, compareCall};
 use detect::Mode;
 use detect::one_block;
+use finish::DIGEST_SIZE;
 use finish::Outcome;
 use finish::finish;
 use finish::finish_and_reset;
 use finish::one_shot;
 use hasher::Hasher;
+use hasher::Updated;
 use hasher::reset;
 use hasher::update;
 use refusal::Refusal;
-use refusal::is_nothing;
 use refusal::number;
 use refusal::place;
 use sheet::Compared;
@@ -28,7 +33,7 @@ use sheet::Comparison;
 use sheet::compare;
 use sheet::lookup;
 use sheet::lookup_refusal;
-use sheet::same_bytes;
+use sheet::part_from;
 use stream::Flags;
 use stream::Masks;
 use table::table_fault;
@@ -36,7 +41,7 @@ use verdict::Verdict;
 
 pub const WRONG_LENGTH: u32 = 255;
 
-// Copies between lent slices and arrays, one for each width.
+// Copies between lent slices and arrays: a loop over bytes, and a store for each of five words.
 
 fn put_bytes(out: &mut [u8], s: &[u8])
     requires { ⌜ length (now out) ≡ length (now s) ⌝ }
@@ -47,13 +52,15 @@ fn put_bytes(out: &mut [u8], s: &[u8])
     }
 }
 
-fn put_words(out: &mut [u32], s: &[u32])
-    requires { ⌜ length (now out) ≡ length (now s) ⌝ }
-    ensures { λ r. ⌜ now (out .exit) ≡ now (s .entry) ⌝ }
+fn put_words(out: &mut [u32], w: [u32; 5])
+    requires { ⌜ length (now out) ≡ 5 ⌝ }
+    ensures { λ r. ⌜ now (out .exit) ≡ w ⌝ }
 {
-    for i in 0..s.len() {
-        out[i] = s[i];
-    }
+    out[0] = w[0];
+    out[1] = w[1];
+    out[2] = w[2];
+    out[3] = w[3];
+    out[4] = w[4];
 }
 
 // Two numbers into an answer.
@@ -80,9 +87,7 @@ fn words_in(s: &[u32]) -> [u32; 5]
     requires { ⌜ length (now s) ≡ 5 ⌝ }
     ensures { λ r. ⌜ r ≡ now (s .entry) ⌝ }
 {
-    let mut w = [0u32; 5];
-    put_words(&mut w, s);
-    w
+    [s[0], s[1], s[2], s[3], s[4]]
 }
 
 fn pending_in(s: &[u8]) -> [u8; 64]
@@ -94,11 +99,11 @@ fn pending_in(s: &[u8]) -> [u8; 64]
     p
 }
 
-fn digest_in(s: &[u8]) -> [u8; 20]
-    requires { ⌜ length (now s) ≡ 20 ⌝ }
+fn digest_in(s: &[u8]) -> [u8; DIGEST_SIZE]
+    requires { ⌜ length (now s) ≡ digestSize ⌝ }
     ensures { λ r. ⌜ r ≡ now (s .entry) ⌝ }
 {
-    let mut d = [0u8; 20];
+    let mut d = [0u8; DIGEST_SIZE];
     put_bytes(&mut d, s);
     d
 }
@@ -148,9 +153,9 @@ fn flags_number(f: Flags) -> u64
     bit_of(f.detect) + 2 * bit_of(f.mitigate) + 4 * masks_bit(masks) + 8 * bit_of(f.reduced)
 }
 
-// Whether the slices of a hasher have their fixed lengths.
-fn hasher_fits(words: usize, pending: usize, state: usize) -> bool
-    ensures { λ r. ⌜ r ≡ hasherFits words pending state ⌝ }
+// Whether the slices of a hasher have their fixed lengths, and the rest of what a call asks holds.
+fn hasher_fits(words: usize, pending: usize, state: usize, rest: bool) -> bool
+    ensures { λ r. ⌜ r ≡ (hasherFits words pending state && rest) ⌝ }
 {
     if words != 5 {
         return false;
@@ -158,7 +163,20 @@ fn hasher_fits(words: usize, pending: usize, state: usize) -> bool
     if pending != 64 {
         return false;
     }
-    state == 4
+    if state != 4 {
+        return false;
+    }
+    rest
+}
+
+// Whether a digest and an answer have their fixed lengths.
+fn digest_fits(digest: usize, answer: usize) -> bool
+    ensures { λ r. ⌜ r ≡ (eqb digest digestSize && eqb answer 2) ⌝ }
+{
+    if digest != DIGEST_SIZE {
+        return false;
+    }
+    answer == 2
 }
 
 // The hasher that lies in three lent slices.
@@ -188,7 +206,7 @@ fn put_hasher(words: &mut [u32], pending: &mut [u8], state: &mut [u64], h: Hashe
     let p = h.pending;
     let flags = h.flags;
     let fill = h.fill;
-    put_words(words, &w);
+    put_words(words, w);
     put_bytes(pending, &p);
     put_four(
         state,
@@ -222,7 +240,7 @@ fn verdict_for(x: u32) -> Verdict
 }
 
 fn refusal_in(o: Outcome) -> Refusal
-    ensures { λ r. ⌜ r ≡ refusalIn o ⌝ }
+    ensures { λ r. ⌜ r ≡ outcomeRefusal o ⌝ }
 {
     match o {
         Outcome::Done(_) => Refusal::Nothing,
@@ -261,6 +279,49 @@ fn compared_number(c: Compared) -> u32
     }
 }
 
+// Two numbers into an answer: what the call says, and the place of the refused record. The refusal's number comes back.
+fn say(answer: &mut [u64], says: u64, r: Refusal) -> u32
+    requires { ⌜ length (now answer) ≡ 2 ⌝ }
+    ensures { λ n. ⌜ (n ≡ numberOf r) × (now (answer .exit) ≡ answerPair says r) ⌝ }
+{
+    put_two(answer, says, place(r) as u64);
+    number(r)
+}
+
+// A verdict or a refusal into an answer.
+fn put_outcome(answer: &mut [u64], o: Outcome) -> u32
+    requires { ⌜ length (now answer) ≡ 2 ⌝ }
+    ensures { λ n. ⌜ (n ≡ numberOf (outcomeRefusal o)) × (now (answer .exit) ≡ outcomeAnswer o) ⌝ }
+{
+    say(answer, verdict_in(o), refusal_in(o))
+}
+
+// A hasher and an answer, as an update or a reset leaves them.
+fn put_updated(
+    words: &mut [u32],
+    pending: &mut [u8],
+    state: &mut [u64],
+    answer: &mut [u64],
+    u: Updated,
+) -> u32
+    requires { ⌜ ((length (now words) ≡ 5) × (length (now pending) ≡ 64) × (length (now state) ≡ 4)) × (length (now answer) ≡ 2) ⌝ }
+    ensures { λ r. ⌜ left r (now (words .exit) ∷ now (pending .exit) ∷ now (state .exit) ∷ now (answer .exit) ∷ []) ≡ updatedLeft u ⌝ }
+{
+    let h = u.hasher;
+    let r = u.refusal;
+    put_hasher(words, pending, state, h);
+    say(answer, 0, r)
+}
+
+// A digest and an answer, as a finish or the one-shot form leaves them.
+fn put_digest(digest: &mut [u8], answer: &mut [u64], d: [u8; DIGEST_SIZE], o: Outcome) -> u32
+    requires { ⌜ (length (now digest) ≡ digestSize) × (length (now answer) ≡ 2) ⌝ }
+    ensures { λ r. ⌜ left r (now (digest .exit) ∷ now (answer .exit) ∷ []) ≡ digestLeft o d ⌝ }
+{
+    put_bytes(digest, &d);
+    put_outcome(answer, o)
+}
+
 #[no_mangle]
 pub extern "C" fn purserumble_one_block(
     words: &mut [u32],
@@ -289,7 +350,7 @@ pub extern "C" fn purserumble_one_block(
     let w = o.words;
     let r = o.refusal;
     let found = o.found;
-    put_words(words, &w);
+    put_words(words, w);
     put_four(
         answer,
         bit_of(found.mark),
@@ -312,18 +373,11 @@ pub extern "C" fn purserumble_update(
 ) -> u32
     ensures { λ r. ⌜ left r (now (words .exit) ∷ now (pending .exit) ∷ now (state .exit) ∷ now (answer .exit) ∷ []) ≡ updateCall (now (words .entry)) (now (pending .entry)) (now (state .entry)) (now (bytes .entry)) (now (table .entry)) (now (masks .entry)) (now (answer .entry)) ⌝ }
 {
-    if !hasher_fits(words.len(), pending.len(), state.len()) {
-        return WRONG_LENGTH;
-    }
-    if answer.len() != 2 {
+    if !hasher_fits(words.len(), pending.len(), state.len(), answer.len() == 2) {
         return WRONG_LENGTH;
     }
     let u = update(hasher_in(words, pending, state), bytes, table, masks);
-    let r = u.refusal;
-    let h = u.hasher;
-    put_hasher(words, pending, state, h);
-    put_two(answer, 0, place(r) as u64);
-    number(r)
+    put_updated(words, pending, state, answer, u)
 }
 
 #[no_mangle]
@@ -335,18 +389,11 @@ pub extern "C" fn purserumble_reset(
 ) -> u32
     ensures { λ r. ⌜ left r (now (words .exit) ∷ now (pending .exit) ∷ now (state .exit) ∷ now (answer .exit) ∷ []) ≡ resetCall (now (words .entry)) (now (pending .entry)) (now (state .entry)) (now (answer .entry)) ⌝ }
 {
-    if !hasher_fits(words.len(), pending.len(), state.len()) {
+    if !hasher_fits(words.len(), pending.len(), state.len(), answer.len() == 2) {
         return WRONG_LENGTH;
     }
-    if answer.len() != 2 {
-        return WRONG_LENGTH;
-    }
-    let u = reset(hasher_in(words, pending, state));
-    let r = u.refusal;
-    let h = u.hasher;
-    put_hasher(words, pending, state, h);
-    put_two(answer, 0, place(r) as u64);
-    number(r)
+    let fresh = reset(hasher_in(words, pending, state));
+    put_updated(words, pending, state, answer, fresh)
 }
 
 // The hasher is lent for reading only: a finish hands it back as given.
@@ -362,22 +409,18 @@ pub extern "C" fn purserumble_finish(
 ) -> u32
     ensures { λ r. ⌜ left r (now (digest .exit) ∷ now (answer .exit) ∷ []) ≡ finishCall (now (words .entry)) (now (pending .entry)) (now (state .entry)) (now (digest .entry)) (now (table .entry)) (now (masks .entry)) (now (answer .entry)) ⌝ }
 {
-    if !hasher_fits(words.len(), pending.len(), state.len()) {
-        return WRONG_LENGTH;
-    }
-    if digest.len() != 20 {
-        return WRONG_LENGTH;
-    }
-    if answer.len() != 2 {
+    if !hasher_fits(
+        words.len(),
+        pending.len(),
+        state.len(),
+        digest_fits(digest.len(), answer.len()),
+    ) {
         return WRONG_LENGTH;
     }
     let f = finish(hasher_in(words, pending, state), table, masks);
     let d = f.digest;
     let o = f.outcome;
-    put_bytes(digest, &d);
-    let r = refusal_in(o);
-    put_two(answer, verdict_in(o), place(r) as u64);
-    number(r)
+    put_digest(digest, answer, d, o)
 }
 
 #[no_mangle]
@@ -392,19 +435,14 @@ pub extern "C" fn purserumble_finish_and_reset(
 ) -> u32
     ensures { λ r. ⌜ left r (now (words .exit) ∷ now (pending .exit) ∷ now (state .exit) ∷ now (out .exit) ∷ now (answer .exit) ∷ []) ≡ closeCall (now (words .entry)) (now (pending .entry)) (now (state .entry)) (now (out .entry)) (now (table .entry)) (now (masks .entry)) (now (answer .entry)) ⌝ }
 {
-    if !hasher_fits(words.len(), pending.len(), state.len()) {
-        return WRONG_LENGTH;
-    }
-    if answer.len() != 2 {
+    if !hasher_fits(words.len(), pending.len(), state.len(), answer.len() == 2) {
         return WRONG_LENGTH;
     }
     let c = finish_and_reset(hasher_in(words, pending, state), out, table, masks);
     let h = c.hasher;
-    let o = c.outcome;
+    let outcome = c.outcome;
     put_hasher(words, pending, state, h);
-    let r = refusal_in(o);
-    put_two(answer, verdict_in(o), place(r) as u64);
-    number(r)
+    put_outcome(answer, outcome)
 }
 
 #[no_mangle]
@@ -417,19 +455,13 @@ pub extern "C" fn purserumble_one_shot(
 ) -> u32
     ensures { λ r. ⌜ left r (now (digest .exit) ∷ now (answer .exit) ∷ []) ≡ oneShotCall (now (bytes .entry)) (now (digest .entry)) (now (table .entry)) (now (masks .entry)) (now (answer .entry)) ⌝ }
 {
-    if digest.len() != 20 {
-        return WRONG_LENGTH;
-    }
-    if answer.len() != 2 {
+    if !digest_fits(digest.len(), answer.len()) {
         return WRONG_LENGTH;
     }
     let s = one_shot(bytes, table, masks);
     let d = s.digest;
     let o = s.outcome;
-    put_bytes(digest, &d);
-    let r = refusal_in(o);
-    put_two(answer, verdict_in(o), place(r) as u64);
-    number(r)
+    put_digest(digest, answer, d, o)
 }
 
 #[no_mangle]
@@ -439,41 +471,10 @@ pub extern "C" fn purserumble_table_fault(table: &[u32], answer: &mut [u64]) -> 
     if answer.len() != 2 {
         return WRONG_LENGTH;
     }
-    let r = table_fault(table);
-    put_two(answer, 0, place(r) as u64);
-    number(r)
+    say(answer, 0, table_fault(table))
 }
 
-// The place of the first record with the barcode. An exported function can hand back no part of a slice, so where
-// the part lies is counted here.
-fn record_for(sheet: &[u8], code: &[u8]) -> usize
-    ensures { λ r. ⌜ r ≡ recordFor (now (sheet .entry)) (now (code .entry)) ⌝ }
-{
-    let n = sheet.len() / 32;
-    for k in 0..n {
-        let at = 32 * k;
-        let end = at + 12;
-        if same_bytes(&sheet[at..end], code) {
-            return k;
-        }
-    }
-    n
-}
-
-// Where the part that a lookup hands back begins.
-fn part_from(sheet: &[u8], code: &[u8]) -> usize
-    ensures { λ r. ⌜ r ≡ partFrom (now (sheet .entry)) (now (code .entry)) ⌝ }
-{
-    if !is_nothing(lookup_refusal(sheet, code)) {
-        return sheet.len();
-    }
-    let k = record_for(sheet, code);
-    if k < sheet.len() / 32 {
-        return 32 * k + 12;
-    }
-    sheet.len()
-}
-
+// An exported function can hand back no part of a slice: it says where the part lies.
 #[no_mangle]
 pub extern "C" fn purserumble_lookup(sheet: &[u8], code: &[u8], part: &mut [u64]) -> u32
     ensures { λ r. ⌜ left r (now (part .exit) ∷ []) ≡ lookupCall (now (sheet .entry)) (now (code .entry)) (now (part .entry)) ⌝ }
@@ -497,10 +498,7 @@ pub extern "C" fn purserumble_compare(
 ) -> u32
     ensures { λ r. ⌜ left r (now (answer .exit) ∷ []) ≡ compareCall (now (sheet .entry)) (now (code .entry)) (verdictFor verdict) (now (digest .entry)) (now (answer .entry)) ⌝ }
 {
-    if digest.len() != 20 {
-        return WRONG_LENGTH;
-    }
-    if answer.len() != 2 {
+    if !digest_fits(digest.len(), answer.len()) {
         return WRONG_LENGTH;
     }
     let c = compare(sheet, code, verdict_for(verdict), digest_in(digest));

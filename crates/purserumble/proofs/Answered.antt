@@ -1,29 +1,34 @@
--- What the updates of a message come to. Assumes nothing.
-use mathlib.Core.Path.{_≡_, refl}
+-- What is heard, read and asked, as the answers to it. Assumes nothing.
+use mathlib.Core.Path.{_≡_, refl, sym, ap, _∙_}
 use mathlib.Core.Bool.{Bool, true, false, false≢true}
 use mathlib.Core.List.{List, []}
-use Prim.Native.Nat.{ℕ, _/_, _≤_}
-use lib.ListN.{length}
+use mathlib.Core.Option.{some}
+use Prim.Native.Nat.{ℕ, _+_, _/_, _≤_}
+use lib.ListN.{length, take}
 use Rattle.word.specs.Choice.{pick}
 use Rattle.refusal.specs.Refusal.{isNothing}
 use Rattle.refusal.specs.declared.Refusal.{Refusal}
 use Rattle.refusal.specs.declared.Refusal.the-variants.{TableLength}
 use Rattle.stream.specs.declared.Flags.{Flags}
 use Rattle.hasher.specs.Hasher.{freshOf}
-use Rattle.hasher.specs.declared.Hasher.{Hasher}
-use Rattle.finish.specs.Finish.{finished}
-use Rattle.file.specs.File.{mostWords, fileFault}
+use Rattle.file.specs.File.{mostWords, mostFileBytes, fileFault}
 use Rattle.file.proofs.Short.{short}
 use Rattle.console.specs.Arguments.{flagsOf}
-use Rattle.console.specs.declared.Setting.{Setting}
-use Rattle.console.specs.declared.Saying.the-variants.{Refused, Unread}
-use Rattle.purserumble.specs.Run.{silentOf, concluded, answerTo, Contents, answerWith, respondTo, Asks, Fed}
+use Rattle.console.specs.declared.Saying.the-variants.{Unread}
+use Rattle.purserumble.specs.Reads.{Read, Hears}
+use Rattle.purserumble.specs.Files.{File, Contents, holds, contentsOf, inBuffer, Loads}
+use Rattle.purserumble.specs.Given.{Asks}
+use Rattle.purserumble.specs.Run.{silentOf, concluded, answerTo, answerFor, answerWith, respondTo, Answers, AnswersFile}
+use Rattle.purserumble.specs.declared.Answer.{Answer}
+use Rattle.purserumble.specs.declared.Asked.{Asked}
+use Rattle.purserumble.specs.declared.Heard.{Heard}
+use Rattle.purserumble.specs.declared.Loaded.{Loaded}
+use Rattle.purserumble.specs.declared.Loaded.the-variants.{Bytes, Failed}
 
--- the answer to what was heard is that to the pieces
-pub fed-answers : {f : Flags} {table : List ℕ} {r : Refusal} {h : Hasher} (fed : Fed (freshOf f) table r h) (failed : Bool)
-    → concluded (record { refusal = r; failed = failed; hasher = h }) table ≡ answerTo f table (fed .pieces) failed
+-- what was heard to its end has an answer
+pub hears-answers : {f : Flags} {table : List ℕ} {h : Heard} (e : Hears (freshOf f) table h) → answerTo f table (e .reads) ≡ some (concluded h table)
 unfolding answerTo
-fed-answers fed failed = rw (fed .updates)
+hears-answers e = rw (← e .heard, e .ended)
 
 -- a file with nothing wrong has no more words than the longest table
 whole : (b : Bool) (r : Refusal) → isNothing (pick b r TableLength) ≡ true → b ≡ true
@@ -34,16 +39,33 @@ pub file-short : (bytes : List ℕ) → isNothing (fileFault bytes) ≡ true →
 unfolding fileFault
 file-short bytes e = short (length bytes) (whole _ _ e)
 
--- the answers that a setting leads to
-module _ {s : Setting} (asks : Asks s) (file : Contents) (bs : List (List ℕ)) (failed : Bool) where
-  pub asks-bad : s .bad ≡ true → silentOf Unread ≡ respondTo (asks .words) file bs failed
+-- the answers that a file leads to, which was read into a buffer of the right length
+module _ {buffer : List ℕ} {r : Loaded} (l : Loads buffer r) (long : length buffer ≡ mostFileBytes + 1) (f : Flags) (place : ℕ) where
+  contents : {x : Contents} → inBuffer r buffer ≡ x → x ≡ contentsOf (mostFileBytes + 1) (l .file)
+  contents e = sym e ∙ l .loaded ∙ ap (λ (n : ℕ). contentsOf n (l .file)) long
+
+  pub loads-bytes : (n : ℕ) {a : Answer} → r ≡ Bytes n → Answers (answerFor f (holds (take n buffer))) a → AnswersFile f place a
+  loads-bytes n e s =
+      let c = contents (ap (λ (x : Loaded). inBuffer x buffer) e) in
+      record { files = λ i. l .file; answers = record { reads = s .reads; possible = s .possible; answered = rw (← c) (s .answered) } }
+
+  pub loads-failed : r ≡ Failed → AnswersFile f place (silentOf Unread)
+  unfolding answerFor
+  loads-failed e =
+      let c = contents (ap (λ (x : Loaded). inBuffer x buffer) e) in
+      record { files = λ i. l .file; answers = record { reads = []; possible = tt; answered = rw (← c) } }
+
+-- the answers that what is asked leads to
+module _ {x : Asked} (asks : Asks x) (files : ℕ → File) (reads : List Read) where
+  pub asks-bad : x .setting .bad ≡ true → respondTo (asks .arguments) files reads ≡ some (silentOf Unread)
   unfolding respondTo
   asks-bad e = rw (← asks .asked, e)
 
-  pub asks-table : s .bad ≡ false → s .table ≡ true → answerWith (flagsOf s) file bs failed ≡ respondTo (asks .words) file bs failed
+  pub asks-table : x .setting .bad ≡ false → x .setting .table ≡ true
+      → respondTo (asks .arguments) files reads ≡ answerWith (flagsOf (x .setting)) (files (x .place)) reads
   unfolding respondTo
-  asks-table e f = rw (← asks .asked, e, f)
+  asks-table e t = rw (← asks .asked, ← asks .placed, e, t)
 
-  pub asks-none : s .bad ≡ false → s .table ≡ false → answerTo (flagsOf s) [] bs failed ≡ respondTo (asks .words) file bs failed
+  pub asks-none : x .setting .bad ≡ false → x .setting .table ≡ false → respondTo (asks .arguments) files reads ≡ answerTo (flagsOf (x .setting)) [] reads
   unfolding respondTo
-  asks-none e f = rw (← asks .asked, e, f)
+  asks-none e t = rw (← asks .asked, e, t)

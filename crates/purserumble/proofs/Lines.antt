@@ -1,7 +1,8 @@
 -- What the program writes for a whole message with no table: 01's example among them. Assumes nothing.
-use mathlib.Core.Path.{_≡_, refl, sym, ap, _∙_}
+use mathlib.Core.Path.{_≡_, refl, ap, _∙_}
 use mathlib.Core.Bool.{false}
 use mathlib.Core.List.{List, [], _∷_}
+use mathlib.Core.Option.{some, Option·map}
 use Prim.Native.Nat.{ℕ, _≤_}
 use lib.Dec.{lit≤}
 use lib.ListN.{length}
@@ -18,29 +19,30 @@ use Rattle.console.specs.Arguments.{settingOf, flagsOf}
 use Rattle.console.specs.Line.{hexOf, verdictText, lineOf}
 use Rattle.console.specs.declared.Saying.the-variants.{Verdict}
 use Rattle.console.specs.declared.Setting.{Setting}
-use Rattle.console.specs.declared.Word.{Word}
 use Rattle.console.proofs.Settings.{setting-none}
-use Rattle.claims.specs.Pieces.{bytesOf}
+use Rattle.claims.specs.Pieces.{hashed}
 use Rattle.claims.proofs.Every.{none-refused-off, every-message}
-use Rattle.purserumble.specs.Run.{finishSays, concluded, calls, answerTo, Contents, respondTo}
+use Rattle.purserumble.specs.Reads.{Read, below0}
+use Rattle.purserumble.specs.Files.{File}
+use Rattle.purserumble.specs.Given.{Argument, wordsRead}
+use Rattle.purserumble.specs.Run.{finishSays, respondTo}
 use Rattle.purserumble.specs.declared.Answer.{Answer}
-use Rattle.purserumble.proofs.Answered.{asks-none}
+use Rattle.purserumble.proofs.Ends.{calls, messageOf, Ends}
+use Rattle.purserumble.proofs.Verdicts.{end-says, unasked, respond-with}
 
--- the message of some pieces
-abbrev pub messageOf : List (List ℕ) → List ℕ
-messageOf bs = bytesOf (calls bs)
-
-undetected : (f : Flags) (bs : List (List ℕ)) → f .detect ≡ false → length (messageOf bs) ≤ mostBytes
-    → answerTo f [] bs false ≡ record { saying = Verdict Ok; digest = sha1 (messageOf bs) }
-unfolding answerTo concluded
-undetected f bs off short =
-    rw (none-refused-off f [] (calls bs) [] short off .updates) (ap finishSays (every-message f [] (calls bs) [] short off))
+undetected : (f : Flags) (rs : List Read) → f .detect ≡ false → length (messageOf rs) ≤ mostBytes
+    → finishSays (hashed f [] (calls rs) []) ≡ record { saying = Verdict Ok; digest = sha1 (messageOf rs) }
+undetected f rs off short = ap finishSays (every-message f [] (calls rs) [] short off)
 
 -- With no bad argument and no table, a message that is read to its end has the verdict ok and FIPS 180-4's digest, in whatever pieces it comes.
-pub no-table : (ws : List Word) (file : Contents) (bs : List (List ℕ)) → settingOf ws .bad ≡ false → settingOf ws .table ≡ false
-    → length (messageOf bs) ≤ mostBytes → respondTo ws file bs false ≡ record { saying = Verdict Ok; digest = sha1 (messageOf bs) }
-no-table ws file bs good none short =
-    sym (asks-none (record { words = ws; asked = refl }) file bs false good none) ∙ undetected (flagsOf (settingOf ws)) bs none short
+pub no-table : (args : List Argument) (files : ℕ → File) (reads : List Read) → settingOf (wordsRead args) .bad ≡ false → settingOf (wordsRead args) .table ≡ false
+    → (e : Ends reads) → below0 (e .last .got) ≡ false → length (messageOf (e .before)) ≤ mostBytes
+    → respondTo args files reads ≡ some (record { saying = Verdict Ok; digest = sha1 (messageOf (e .before)) })
+no-table args files reads good off e unfailed short =
+    let f = flagsOf (settingOf (wordsRead args)) in
+    respond-with args files reads good (unasked off)
+    ∙ end-says f [] reads e (none-refused-off f [] (calls (e .before)) [] short off .updates) unfailed
+    ∙ ap some (undetected f (e .before) off short)
 
 -- the line of an answer
 abbrev pub lineFor : Answer → List ℕ
@@ -58,9 +60,10 @@ unfolding verdictText hexOf sha1 be64 hashBlocks digestOf compressOf overSchedul
 digest-line = refl
 
 -- With no argument the message `hello world`, in whatever pieces it comes, has the line that 01 gives.
-pub hello-world : (file : Contents) (bs : List (List ℕ)) → messageOf bs ≡ hello → lineFor (respondTo [] file bs false) ≡ helloLine
-hello-world file bs e =
-    let short : length (messageOf bs) ≤ mostBytes = rw e (lit≤ tt) in
+pub hello-world : (files : ℕ → File) (reads : List Read) (e : Ends reads) → below0 (e .last .got) ≡ false → messageOf (e .before) ≡ hello
+    → Option·map lineFor (respondTo [] files reads) ≡ some helloLine
+hello-world files reads e unfailed m =
+    let short : length (messageOf (e .before)) ≤ mostBytes = rw m (lit≤ tt) in
     let good = ap (λ (s : Setting). s .bad) setting-none in
-    let none = ap (λ (s : Setting). s .table) setting-none in
-    ap lineFor (no-table [] file bs good none short) ∙ rw e digest-line
+    let off = ap (λ (s : Setting). s .table) setting-none in
+    rw (no-table [] files reads good off e unfailed short, m) (ap some digest-line)

@@ -1,8 +1,9 @@
 // Reads a message on standard input and writes one line: the verdict and the digest, or the number of what is refused.
 ghost use mathlib.Core.Path.{_≡_};
-ghost use Prim.Native.Nat.{_≤_};
-ghost use lib.ListN.{length};
-ghost use Rattle.purserumble.specs.Run.{below0, fileEnd, sizeOf, messageEnd, silentOf, finishSays, concluded, answerTo, holds, answerWith, Asks, Fed, Answers, AnswersFile, Responds};
+ghost use Rattle.purserumble.specs.Reads.{below0, readOf, unheard, messageEnd, heardWith, Hears};
+ghost use Rattle.purserumble.specs.Files.{holds, fileEnd, Fills, Loads};
+ghost use Rattle.purserumble.specs.Given.{argumentOf, wordRead, placedAt, Given, Asks};
+ghost use Rattle.purserumble.specs.Run.{silentOf, finishSays, concluded, answerTo, answerFor, Answers, AnswersFile, Responds};
 use console::Saying;
 use console::Setting;
 use console::Word;
@@ -10,6 +11,7 @@ use console::file_name;
 use console::flags_of;
 use console::line_of;
 use console::word_of;
+use file::MOST_WORDS;
 use file::file_fault;
 use file::file_words;
 use finish::Finished;
@@ -17,17 +19,21 @@ use finish::Outcome;
 use finish::finish;
 use hasher::Hasher;
 use hasher::update;
+use libc::PATH_MAX;
 use libc::STDIN_FILENO;
 use libc::STDOUT_FILENO;
 use refusal::Refusal;
 use refusal::is_nothing;
 use stream::Flags;
 
-// Bytes in the longest argument that can name a file: `table=` and a path of 4,095 bytes.
-const MOST_ARGUMENT: usize = 4101;
+// Bytes in `table=`.
+const SIGN: usize = 6;
+
+// Bytes in the longest argument that can name a file: `table=` and a path without the 0 that ends it.
+const MOST_ARGUMENT: usize = SIGN + PATH_MAX - 1;
 
 // One byte more than the longest table file has, so that a longer one is seen.
-const MOST_FILE: usize = 10497;
+const MOST_FILE: usize = 4 * MOST_WORDS + 1;
 
 // What the arguments ask, and which one names the table.
 struct Asked {
@@ -41,11 +47,12 @@ enum Loaded {
     Failed,
 }
 
-// What came of reading the message: the updates, and whether a read failed.
+// What came of reading the message so far: the updates, whether a read failed, and whether there is more to read.
 struct Heard {
     refusal: Refusal,
     failed: bool,
     hasher: Hasher,
+    more: bool,
 }
 
 // What is to be written.
@@ -54,18 +61,30 @@ struct Answer {
     digest: [u8; 20],
 }
 
-// Argument i. One that is too long is no word of ours, or names a path that no file can have.
-fn argument(i: usize) -> Word {
-    let mut buf = [0u8; MOST_ARGUMENT];
-    let n = os::arg(i, &mut buf);
-    if os::errno() != 0 {
+// The word that an argument is, by what fetching it answered. One that is too long is no word of ours, or names a path that
+// no file can have.
+fn word_read(error: i32, arg: &[u8]) -> Word
+    ensures { λ r. ⌜ r ≡ wordRead (argumentOf error (now (arg .entry))) ⌝ }
+{
+    if error != 0 {
         return Word::Other;
     }
-    word_of(&buf[..n])
+    word_of(arg)
+}
+
+// The word that argument i is.
+fn argument(i: usize) -> Word
+    ensures { λ r. ⌜ Given r ⌝ }
+{
+    let mut buf = [0u8; MOST_ARGUMENT];
+    let n = os::arg(i, &mut buf);
+    word_read(os::errno(), &buf[..n])
 }
 
 // The place of the argument that names the table, with argument i as well.
-fn placed(place: usize, w: Word, i: usize) -> usize {
+fn placed(place: usize, w: Word, i: usize) -> usize
+    ensures { λ r. ⌜ r ≡ placedAt place w i ⌝ }
+{
     match w {
         Word::Table => i,
         Word::Raw => place,
@@ -73,8 +92,9 @@ fn placed(place: usize, w: Word, i: usize) -> usize {
     }
 }
 
+// The arguments one after the other; the first, at place 0, is the program's own name.
 fn arguments() -> Asked
-    ensures { λ r. ⌜ Asks (r .setting) ⌝ }
+    ensures { λ r. ⌜ Asks r ⌝ }
 {
     let mut setting = Setting::new();
     let mut place = 0;
@@ -105,7 +125,7 @@ fn file_end(got: isize, done: usize) -> Loaded
 
 // Reads until the file ends or the buffer is full.
 fn read_file(fd: i32, bytes: &mut [u8]) -> Loaded
-    ensures { λ r. ⌜ sizeOf r ≤ length (now (bytes .exit)) ⌝ }
+    ensures { λ r. ⌜ Fills (now (bytes .exit)) r ⌝ }
 {
     let mut done = 0;
     while done < bytes.len() {
@@ -119,19 +139,39 @@ fn read_file(fd: i32, bytes: &mut [u8]) -> Loaded
     Loaded::Bytes(done)
 }
 
-// The bytes of the file that argument i names. The file is closed before the message is read.
+// Whether a file was not opened.
+fn is_unopened(fd: i32) -> bool
+    ensures { λ r. ⌜ r ≡ below0 fd ⌝ }
+{
+    fd < 0
+}
+
+// The bytes of the file that argument i names. It is closed before the message is read: with standard input closed, the file
+// has its descriptor, 0, and would be read as the message.
 fn load(i: usize, bytes: &mut [u8]) -> Loaded
-    ensures { λ r. ⌜ sizeOf r ≤ length (now (bytes .exit)) ⌝ }
+    ensures { λ r. ⌜ Loads (now (bytes .exit)) r ⌝ }
 {
     let mut buf = [0u8; MOST_ARGUMENT];
     let n = os::arg(i, &mut buf);
     let fd = os::open_read(file_name(&buf[..n]));
-    if fd < 0 {
+    if is_unopened(fd) {
         return Loaded::Failed;
     }
     let got = read_file(fd, bytes);
     libc::close(fd);
     got
+}
+
+// What was heard before the first read.
+fn nothing_heard(h: Hasher) -> Heard
+    ensures { λ r. ⌜ r ≡ unheard h ⌝ }
+{
+    Heard {
+        refusal: Refusal::Nothing,
+        failed: false,
+        hasher: h,
+        more: true,
+    }
 }
 
 // What was heard when no more bytes come: an error is no end.
@@ -142,32 +182,41 @@ fn message_end(got: isize, h: Hasher) -> Heard
         refusal: Refusal::Nothing,
         failed: is_error(got),
         hasher: h,
+        more: false,
+    }
+}
+
+// What was heard with one read more, by its answer and the buffer after it.
+fn hear_one(h: Hasher, table: &[u32], got: isize, buf: &[u8]) -> Heard
+    ensures { λ r. ⌜ r ≡ heardWith h (now (table .entry)) (readOf got (now (buf .entry))) ⌝ }
+{
+    let n = io::count(got, buf);
+    if n == 0 {
+        return message_end(got, h);
+    }
+    let u = update(h, &buf[0..n], table, &table[0..0]);
+    let refusal = u.refusal;
+    let hasher = u.hasher;
+    Heard {
+        refusal,
+        failed: false,
+        hasher,
+        more: is_nothing(refusal),
     }
 }
 
 // Takes the message piece by piece to its end, to a refusal or to a read that fails.
 fn hear(start: Hasher, table: &[u32]) -> Heard
-    ensures { λ r. ⌜ Fed start (now (table .entry)) (r .refusal) (r .hasher) ⌝ }
+    ensures { λ r. ⌜ Hears start (now (table .entry)) r ⌝ }
 {
     let mut buf = io::large_buffer();
-    let mut h = start;
-    loop {
+    let mut heard = nothing_heard(start);
+    while heard.more {
+        let h = heard.hasher;
         let got = libc::read(STDIN_FILENO, &mut buf);
-        let n = io::count(got, &buf);
-        if n == 0 {
-            return message_end(got, h);
-        }
-        let u = update(h, &buf[..n], table, &table[0..0]);
-        h = u.hasher;
-        let r = u.refusal;
-        if !is_nothing(r) {
-            return Heard {
-                refusal: r,
-                failed: false,
-                hasher: h,
-            };
-        }
+        heard = hear_one(h, table, got, &buf);
     }
+    heard
 }
 
 // An answer with no digest.
@@ -219,11 +268,11 @@ fn run(flags: Flags, table: &[u32]) -> Answer
 
 // The answer with a table file: the whole table is checked before the message is read.
 fn run_checked(flags: Flags, bytes: &[u8]) -> Answer
-    ensures { λ r. ⌜ Answers (answerWith flags (holds (now (bytes .entry)))) r ⌝ }
+    ensures { λ r. ⌜ Answers (answerFor flags (holds (now (bytes .entry)))) r ⌝ }
 {
-    let r = file_fault(bytes);
-    if !is_nothing(r) {
-        return silent(Saying::Refused(r));
+    let fault = file_fault(bytes);
+    if !is_nothing(fault) {
+        return silent(Saying::Refused(fault));
     }
     let words = file_words(bytes);
     let n = bytes.len() / 4;
@@ -232,7 +281,7 @@ fn run_checked(flags: Flags, bytes: &[u8]) -> Answer
 
 // The answer with the table file that argument i names.
 fn run_file(flags: Flags, i: usize) -> Answer
-    ensures { λ r. ⌜ AnswersFile flags r ⌝ }
+    ensures { λ r. ⌜ AnswersFile flags i r ⌝ }
 {
     let mut bytes = [0u8; MOST_FILE];
     match load(i, &mut bytes) {

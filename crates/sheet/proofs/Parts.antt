@@ -1,18 +1,19 @@
 -- The part that a lookup hands back: where it begins, which bytes it has, and where it lies. Assumes nothing.
 use mathlib.Core.Path.{_≡_, refl, sym, ap, _∙_}
-use mathlib.Core.Bool.{Bool, true, false, not, and-false}
+use mathlib.Core.Bool.{Bool, true, false, not, _&&_, and-false}
 use mathlib.Core.List.{List, []}
 use Prim.Native.Nat.{ℕ, _+_, _-_, _*_, _≤_, _<_}
-use native.Mathlib.Nat.{add-sub-cancel-left, sub-self}
+use native.Mathlib.Nat.{add-sub-cancel-left}
 use native.Mathlib.Omega.{arith}
 use lib.ListN.{length, take, drop, length-drop}
 use lib.Seq.{drop-length, length-take-le}
 use denote.Ref.{RefT, now}
-use borrow.Author.Tests.{not-true, not-false, lt-ltb, le-ltb}
+use borrow.Author.Tests.{not-true, not-false, ltb-true, lt-ltb, le-ltb}
+use Rattle.word.specs.Choice.{pick}
 use Rattle.refusal.specs.Refusal.{isNothing}
 use Rattle.refusal.specs.declared.Refusal.{Refusal}
 use Rattle.verdict.specs.Verdict.{digestSize}
-use Rattle.sheet.specs.Sheet.{barcodeSize, recordSize, digestAt, recordsOn, recordFor}
+use Rattle.sheet.specs.Sheet.{barcodeSize, recordSize, digestAt, recordsOn, recordFor, onSheet}
 use Rattle.sheet.specs.Sheet.{lookupRefusal, partFrom, partOf, placeIn}
 
 -- a record's digest has no byte missing
@@ -47,15 +48,24 @@ module _ (s c : List ℕ) where
   pub part-at-end : partFrom s c ≡ length s → partOf s c ≡ []
   part-at-end e = rw (e, drop-length s)
 
--- the bytes and the place, for the two ways in which the code cuts a part out
-module _ (sheet : RefT (List ℕ)) (c : List ℕ) where
-  abbrev s : List ℕ
-  s = now sheet
+  -- it begins at the sheet's end, or where a whole digest is left
+  pub fits : (partFrom s c ≤ length s) × (partFrom s c < length s → partFrom s c + digestSize ≤ length s)
+  unfolding partFrom
+  fits = go (isNothing (lookupRefusal s c)) (onSheet s c) refl
+    where
+      go : (t u : Bool) → onSheet s c ≡ u
+          → let from = pick (t && u) (recordSize * recordFor s c + barcodeSize) (length s) in
+          (from ≤ length s) × (from < length s → from + digestSize ≤ length s)
+      go true true e =
+          let k : recordFor s c < recordsOn s = ltb-true (recordFor s c) (recordsOn s) e in
+          (omega arith, λ l. omega arith)
+      go true false e = (omega arith, λ l. absurd (omega arith))
+      go false u e = (omega arith, λ l. absurd (omega arith))
 
-  pub at-end : partFrom s c ≡ length s
-      → (take (length s - length s) (drop (length s) s) ≡ partOf s c) × (placeIn sheet (length s) ≡ placeIn sheet (partFrom s c))
-  at-end e = (rw (e, drop-length s, sub-self (length s)), ap (placeIn sheet) (sym e))
+-- the place of a part that begins where it should, and the bytes of a digest that does
+module _ (sheet : RefT (List ℕ)) (c : List ℕ) (from : ℕ) (e : partFrom (now sheet) c ≡ from) where
+  pub placed : placeIn sheet from ≡ placeIn sheet (partFrom (now sheet) c)
+  placed = ap (placeIn sheet) (sym e)
 
-  pub at-digest : (from : ℕ) → partFrom s c ≡ from
-      → (take (from + digestSize - from) (drop from s) ≡ partOf s c) × (placeIn sheet from ≡ placeIn sheet (partFrom s c))
-  at-digest from e = (rw (e, add-sub-cancel-left from digestSize), ap (placeIn sheet) (sym e))
+  pub digest-cut : take (from + digestSize - from) (drop from (now sheet)) ≡ partOf (now sheet) c
+  digest-cut = rw (e, add-sub-cancel-left from digestSize)

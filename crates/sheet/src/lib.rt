@@ -74,19 +74,31 @@ pub fn lookup_refusal(sheet: &[u8], code: &[u8]) -> Refusal
     Refusal::Nothing
 }
 
+// Where the part that a lookup hands back begins: at the digest of the first record with the barcode, or at the
+// sheet's end.
+pub fn part_from(sheet: &[u8], code: &[u8]) -> usize
+    ensures { λ r. ⌜ r ≡ partFrom (now (sheet .entry)) (now (code .entry)) ⌝ }
+{
+    let n = sheet.len();
+    if !is_nothing(lookup_refusal(sheet, code)) {
+        return n;
+    }
+    let k = first_with(sheet, code);
+    if k < n / RECORD_SIZE {
+        return RECORD_SIZE * k + BARCODE_SIZE;
+    }
+    n
+}
+
 // The digest of the first record with the barcode, or the empty part at the sheet's end: in both cases the sheet's
 // own bytes, not a copy.
 pub fn lookup<'a>(sheet: &'a [u8], code: &[u8]) -> &'a [u8]
     ensures bytes { λ r. ⌜ now r ≡ partOf (now (sheet .entry)) (now (code .entry)) ⌝ }
     ensures place { λ r. ⌜ ptr r ≡ placeIn (sheet .entry) (partFrom (now (sheet .entry)) (now (code .entry))) ⌝ }
 {
+    let from = part_from(sheet, code);
     let n = sheet.len();
-    if !is_nothing(lookup_refusal(sheet, code)) {
-        return &sheet[n..];
-    }
-    let k = first_with(sheet, code);
-    if k < n / RECORD_SIZE {
-        let from = RECORD_SIZE * k + BARCODE_SIZE;
+    if from < n {
         let to = from + DIGEST_SIZE;
         return &sheet[from..to];
     }

@@ -1,5 +1,5 @@
 -- `export::flags_in` meets its contract. Assumes nothing.
-use Rattle.export.specs.Lent.{flagsIn}
+use Rattle.export.specs.Layout.{flagsIn}
 use borrow.Author.Needs.{needs}
 use Rattle.export.proofs.flags_in.Statement.{statement}
 use Rattle.export.proofs.flags_in.Tie as tie

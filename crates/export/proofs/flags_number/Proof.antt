@@ -2,7 +2,7 @@
 use native.Mathlib.Omega.{arith}
 use Rattle.stream.specs.Flags.{isLent}
 use borrow.Author.Needs.{needs}
-use Rattle.export.specs.Lent.{flagsNumber}
+use Rattle.export.specs.Layout.{flagsNumber}
 use Rattle.export.proofs.Stores.{at-most-one}
 use Rattle.export.proofs.flags_number.Statement.{statement}
 use Rattle.export.proofs.flags_number.Tie as tie

@@ -1,5 +1,5 @@
 -- `export::hasher_in` meets its contract. Assumes nothing.
-use Rattle.export.specs.Lent.{hasherIn}
+use Rattle.export.specs.Layout.{hasherIn}
 use borrow.Author.Needs.{needs}
 use Rattle.export.proofs.hasher_in.Statement.{statement}
 use Rattle.export.proofs.hasher_in.Tie as tie

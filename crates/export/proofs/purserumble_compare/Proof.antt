@@ -1,23 +1,28 @@
 -- `export::purserumble_compare` meets its contract. Assumes nothing.
-use borrow.Author.Tests.{eq-eqb, ne-eqb}
+use lib.Dec.{eqb}
+use lib.ListN.{length}
+use borrow.Author.Tests.{eqb-true}
+use Rattle.verdict.specs.Verdict.{digestSize}
 use Rattle.export.specs.Calls.{compareCall}
+use Rattle.export.proofs.Guards.{refused, done, fit}
 use borrow.Author.Needs.{needs}
 use Rattle.export.proofs.purserumble_compare.Statement.{statement}
 use Rattle.export.proofs.purserumble_compare.Tie as tie
 
+digest-fits-requires : tie.Need-digest-fits-requires
+digest-fits-requires c κs = search needs
+
 returns : tie.Need-returns
 unfolding compareCall
-returns c = rw (ne-eqb _ _ (c .if1 .taken))
-
-returns-2 : tie.Need-returns-2
-unfolding compareCall
-returns-2 c = rw (eq-eqb _ _ (c .before .if1 .left), ne-eqb _ _ (c .if2 .taken))
+returns c = refused (c .before .digest-fits .ensures) (c .if1 .taken) _ _
 
 verdict-for-requires : tie.Need-verdict-for-requires
 verdict-for-requires c κs = search needs
 
 digest-in-requires : tie.Need-digest-in-requires
-digest-in-requires c κs = search needs
+digest-in-requires c κs =
+    let g = c .before in
+    eqb-true _ _ (fit _ _ (g .before .digest-fits .ensures) (g .if1 .left) .0)
 
 compare-requires : tie.Need-compare-requires
 compare-requires c κs = search needs
@@ -26,7 +31,10 @@ comparison-in-requires : tie.Need-comparison-in-requires
 comparison-in-requires c κs = search needs
 
 put-two-requires : tie.Need-put-two-requires
-put-two-requires c κs = search needs
+put-two-requires c κs =
+    let g = c .before .before .before .before .before in
+    let a = g .before .before .before .before .before .before .args in
+    eqb-true _ _ (fit (eqb (length (a .digest .now)) digestSize) _ (g .before .digest-fits .ensures) (g .if1 .left) .1)
 
 compared-number-requires : tie.Need-compared-number-requires
 compared-number-requires c κs = search needs
@@ -34,33 +42,29 @@ compared-number-requires c κs = search needs
 same-length : tie.Need-same-length
 same-length c = search needs
 
-returns-3 : tie.Need-returns-3
+returns-2 : tie.Need-returns-2
 unfolding compareCall
-returns-3 c =
-    let s1 = c .before .before .before in
-    let s2 = s1 .before in
-    let s3 = s2 .before .before in
-    let s4 = s3 .before in
-    let s5 = s4 .before in
-    let s6 = s5 .before in
-    let s7 = s6 .before in
-    rw (
-      eq-eqb _ _ (s7 .if1 .left),
-      eq-eqb _ _ (s6 .if2 .left),
+returns-2 c =
+    let p = c .before .before .before in
+    let s = p .before .before .before in
+    let d = s .before in
+    let g = d .before .before in
+    done (g .before .digest-fits .ensures) (g .if1 .left)
+    (rw (
       c .compared-number .ensures,
-      s1 .put-two .ensures,
-      s2 .comparison-in .ensures,
-      s3 .compare .ensures,
-      s5 .verdict-for .ensures,
-      s4 .digest-in .ensures,
-    )
+      p .put-two .ensures,
+      p .before .comparison-in .ensures,
+      s .compare .ensures,
+      d .before .verdict-for .ensures,
+      d .digest-in .ensures,
+    )) _
 
 pub purserumble-compare-spec : {M : Type 1} → statement M
 purserumble-compare-spec =
     tie.close
     (tie.spec
+    digest-fits-requires
     returns
-    returns-2
     verdict-for-requires
     digest-in-requires
     compare-requires
@@ -68,4 +72,4 @@ purserumble-compare-spec =
     put-two-requires
     compared-number-requires
     same-length
-    returns-3)
+    returns-2)

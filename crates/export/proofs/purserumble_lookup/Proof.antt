@@ -30,18 +30,15 @@ same-length c = search needs
 returns-2 : tie.Need-returns-2
 unfolding lookupCall
 returns-2 c =
-    let s1 = c .before in
-    let s2 = s1 .before .before .before in
-    let s3 = s2 .before in
-    let s4 = s3 .before .before in
-    let s5 = s4 .before in
+    let p = c .before .before .before .before in
+    let l = p .before .before .before in
     rw (
-      eq-eqb _ _ (s5 .if1 .left),
+      eq-eqb _ _ (l .before .if1 .left),
       c .number .ensures,
-      s1 .lookup-refusal .ensures,
-      s2 .put-two .ensures,
-      s3 .part-from .ensures,
-      s4 .lookup .ensures .0,
+      c .before .lookup-refusal .ensures,
+      p .put-two .ensures,
+      p .before .part-from .ensures,
+      l .lookup .ensures .0,
     )
 
 pub purserumble-lookup-spec : {M : Type 1} → statement M

@@ -1,6 +1,4 @@
 -- `export::purserumble_one_block` meets its contract. Assumes nothing.
-use mathlib.Core.Path.{_≡_, sym, _∙_}
-use lib.ListN.{length}
 use borrow.Author.Tests.{eq-eqb, ne-eqb}
 use Rattle.export.specs.Calls.{blockCall}
 use borrow.Author.Needs.{needs}
@@ -21,14 +19,8 @@ words-in-requires c κs = search needs
 one-block-requires : tie.Need-one-block-requires
 one-block-requires c κs = search needs
 
-slice-aggregate-put-words : tie.Need-slice-aggregate-put-words
-slice-aggregate-put-words c = search needs
-
 put-words-requires : tie.Need-put-words-requires
-put-words-requires c κs =
-    let s0 = c .before .before .before .before in
-    let s1 = s0 .before .before .before .before in
-    let e : length (s0 .one-block .result .words) ≡ 5 = search needs in s1 .if1 .left ∙ sym e
+put-words-requires c κs = search needs
 
 bit-of-requires : tie.Need-bit-of-requires
 bit-of-requires c κs = search needs
@@ -51,24 +43,20 @@ same-length-2 c = search needs
 returns-3 : tie.Need-returns-3
 unfolding blockCall
 returns-3 c =
-    let s1 = c .before .before .before in
-    let s2 = s1 .before in
-    let s3 = s2 .before in
-    let s4 = s3 .before .before .before .before in
-    let s5 = s4 .before .before .before .before .before in
-    let s6 = s5 .before in
-    let s7 = s6 .before .before in
-    let s8 = s7 .before in
+    let p = c .before .before .before in
+    let w = p .before .before .before .before .before .before in
+    let o = w .before .before .before .before in
+    let g = o .before .before .before in
     rw (
-      eq-eqb _ _ (s8 .if1 .left),
-      eq-eqb _ _ (s7 .if2 .left),
+      eq-eqb _ _ (g .before .if1 .left),
+      eq-eqb _ _ (g .if2 .left),
       c .number .ensures,
-      s1 .put-four .ensures,
-      s2 .place .ensures,
-      s3 .bit-of .ensures,
-      s4 .put-words .ensures,
-      s5 .one-block .ensures,
-      s6 .words-in .ensures,
+      p .put-four .ensures,
+      p .before .place .ensures,
+      p .before .before .bit-of .ensures,
+      w .put-words .ensures,
+      o .one-block .ensures,
+      o .before .words-in .ensures,
     )
 
 pub purserumble-one-block-spec : {M : Type 1} → statement M
@@ -79,7 +67,6 @@ purserumble-one-block-spec =
     returns-2
     words-in-requires
     one-block-requires
-    slice-aggregate-put-words
     put-words-requires
     bit-of-requires
     place-requires

@@ -2,25 +2,20 @@
 use mathlib.Core.Path.{_≡_}
 use native.Mathlib.Omega.{arith}
 use lib.ListN.{length}
-use Rattle.export.specs.Lent.{stateOf}
+use Rattle.export.specs.Layout.{stateOf}
 use borrow.Author.Needs.{needs}
 use Rattle.export.proofs.put_hasher.Statement.{statement}
 use Rattle.export.proofs.put_hasher.Tie as tie
 
-slice-aggregate-put-words : tie.Need-slice-aggregate-put-words
-slice-aggregate-put-words c = search needs
-
 put-words-requires : tie.Need-put-words-requires
-put-words-requires c κs =
-    let s0 = c .before .before .before .before .before .before .before .before in
-    let e : length (s0 .args .h .words) ≡ 5 = search needs in omega (arith, s0 .pre .0)
+put-words-requires c κs = search needs
 
 slice-aggregate-put-bytes : tie.Need-slice-aggregate-put-bytes
 slice-aggregate-put-bytes c = search needs
 
 put-bytes-requires : tie.Need-put-bytes-requires
 put-bytes-requires c κs =
-    let s0 = c .before .before .before .before .before .before .before .before .before .before .before .before .before in
+    let s0 = c .before .before .before .before .before .before .before .before .before .before .before .before in
     let e : length (s0 .args .h .pending) ≡ 64 = search needs in omega (arith, s0 .pre .1)
 
 bit-of-requires : tie.Need-bit-of-requires
@@ -55,7 +50,6 @@ pub put-hasher-spec : {M : Type 1} → statement M
 put-hasher-spec =
     tie.close
     (tie.spec
-    slice-aggregate-put-words
     put-words-requires
     slice-aggregate-put-bytes
     put-bytes-requires

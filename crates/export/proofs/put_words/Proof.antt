@@ -1,72 +1,65 @@
--- `export::put_words` meets its contract. The loop's invariant: the first i elements are copied. Assumes nothing.
-use mathlib.Core.Path.{_≡_, refl}
-use Prim.Native.Nat.{_-_, _≤_}
-use lib.ListN.{length, take, length-set}
+-- `export::put_words` meets its contract. Assumes nothing.
+use mathlib.Core.Path.{_≡_, _∙_}
 use native.Mathlib.Omega.{arith}
+use lib.ListN.{length, length-set}
+use Rattle.step.specs.Step.{regsOf, fiveOf}
+use Rattle.hasher.proofs.Moves.{five-is}
+use Rattle.export.proofs.Stores.{filled}
 use borrow.Author.Needs.{needs}
-use Rattle.export.proofs.Stores.{copied-more, copied-all}
 use Rattle.export.proofs.put_words.Statement.{statement}
 use Rattle.export.proofs.put_words.Tie as tie
 
-abbrev Inv-loop : tie.InvT-loop
-Inv-loop out₀ s i₀ i-end out i =
-    (i ≤ length s) × (i-end ≡ length s) × (length out ≡ length s) × (take i out ≡ take i s)
+array-read-out : tie.Need-array-read-out
+array-read-out c = search needs
 
-abbrev μ-loop : tie.MeasureT-loop
-μ-loop out₀ s i₀ i-end out i = length s - i
-
-loop-holds : tie.Need-loop-holds Inv-loop μ-loop
-loop-holds c = (search needs, search needs, search needs, refl)
-
-mul-out : tie.Need-mul-out Inv-loop μ-loop
-mul-out c = search needs
-
-shared-slice-read-out : tie.Need-shared-slice-read-out Inv-loop μ-loop
-shared-slice-read-out c = search needs
-
-mul-out-2 : tie.Need-mul-out-2 Inv-loop μ-loop
-mul-out-2 c = search needs
-
-slice-write-out : tie.Need-slice-write-out Inv-loop μ-loop
+slice-write-out : tie.Need-slice-write-out
 slice-write-out c = search needs
 
-add-i : tie.Need-add-i Inv-loop μ-loop
-add-i c = search needs
+array-read-out-2 : tie.Need-array-read-out-2
+array-read-out-2 c = search needs
 
-loop-less : tie.Need-loop-less Inv-loop μ-loop
-loop-less c = search needs
+slice-write-out-2 : tie.Need-slice-write-out-2
+slice-write-out-2 c = search needs
 
-loop-again : tie.Need-loop-again Inv-loop μ-loop
-loop-again c =
-    let l = c .before .before in
-    let s = l .before .args .s .now in (
-      search needs,
-      search needs,
-      simp length-set (omega arith),
-      copied-more (l .loop .out) s (l .loop .i) (omega arith) (omega arith) (l .loop .inv .3),
-    )
+array-read-out-3 : tie.Need-array-read-out-3
+array-read-out-3 c = search needs
 
-same-length : tie.Need-same-length Inv-loop μ-loop
+slice-write-out-3 : tie.Need-slice-write-out-3
+slice-write-out-3 c = search needs
+
+array-read-out-4 : tie.Need-array-read-out-4
+array-read-out-4 c = search needs
+
+slice-write-out-4 : tie.Need-slice-write-out-4
+slice-write-out-4 c = search needs
+
+array-read-out-5 : tie.Need-array-read-out-5
+array-read-out-5 c = search needs
+
+slice-write-out-5 : tie.Need-slice-write-out-5
+slice-write-out-5 c = simp length-set (omega arith)
+
+same-length : tie.Need-same-length
 same-length c = search needs
 
-returns : tie.Need-returns Inv-loop μ-loop
+returns : tie.Need-returns
 returns c =
-    let l = c .before in
-    copied-all (l .loop .out) (l .before .args .s .now) (l .loop .i) (omega arith) (omega arith) (l .loop .inv .3)
+    let e : length (c .args .t2) ≡ 5 = search needs in
+    filled (fiveOf (regsOf (c .args .t2))) (c .args .out .now) (c .pre) ∙ five-is (c .args .t2) e
 
 pub put-words-spec : {M : Type 1} → statement M
 put-words-spec =
     tie.close
     (tie.spec
-    Inv-loop
-    μ-loop
-    loop-holds
-    mul-out
-    shared-slice-read-out
-    mul-out-2
+    array-read-out
     slice-write-out
-    add-i
-    loop-less
-    loop-again
+    array-read-out-2
+    slice-write-out-2
+    array-read-out-3
+    slice-write-out-3
+    array-read-out-4
+    slice-write-out-4
+    array-read-out-5
+    slice-write-out-5
     same-length
     returns)

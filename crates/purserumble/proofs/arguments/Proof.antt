@@ -1,15 +1,13 @@
--- `purserumble::arguments` meets its contract. The invariant: the words so far ask for the setting. Assumes nothing.
-use mathlib.Core.Path.{sym, _∙_}
-use mathlib.Core.List.{[], _∷_, _++_}
+-- `purserumble::arguments` meets its contract. The invariant: what is asked is what the arguments so far ask. Assumes nothing.
 use Prim.Native.Nat.{_-_, _^_, _<_}
+use native.Mathlib.Numerals.{add-one}
 use borrow.Author.Needs.{needs}
-use Rattle.console.proofs.Settings.{setting-none, setting-more}
-use Rattle.purserumble.specs.Run.{Asks}
+use Rattle.purserumble.proofs.Places.{SoFar, none-yet, one-more}
 use Rattle.purserumble.proofs.arguments.Statement.{statement}
 use Rattle.purserumble.proofs.arguments.Tie as tie
 
 abbrev Inv-loop : tie.InvT-loop
-Inv-loop setting₀ place₀ i₀ i-end setting place i = Asks setting × (i-end < 2 ^ 64)
+Inv-loop setting₀ place₀ i₀ i-end setting place i = SoFar setting place i × (i-end < 2 ^ 64)
 
 abbrev μ-loop : tie.MeasureT-loop
 μ-loop setting₀ place₀ i₀ i-end setting place i = i-end - i
@@ -21,7 +19,7 @@ arg-count-requires : tie.Need-arg-count-requires Inv-loop μ-loop
 arg-count-requires c κs = search needs
 
 loop-holds : tie.Need-loop-holds Inv-loop μ-loop
-loop-holds c = (record { words = []; asked = c .before .new .ensures ∙ sym setting-none }, search needs)
+loop-holds c = (rw (c .before .new .ensures) none-yet, search needs)
 
 argument-requires : tie.Need-argument-requires Inv-loop μ-loop
 argument-requires c κs = search needs
@@ -40,14 +38,11 @@ loop-less c = search needs
 
 loop-again : tie.Need-loop-again Inv-loop μ-loop
 loop-again c =
-    let w = c .before .before .argument .result in
-    let l = c .before .before .before .before .loop .inv in (
-      record { words = l .0 .words ++ (w ∷ []); asked = rw (c .before .with .ensures, l .0 .asked) (sym (setting-more (l .0 .words) w)) },
-      search needs,
-    )
+    let l = c .before .before .before .before .loop .inv in
+    (rw (add-one, c .placed .ensures, c .before .with .ensures) (one-more (l .0) (c .before .before .argument .ensures)), search needs)
 
 returns : tie.Need-returns Inv-loop μ-loop
-returns c = search needs
+returns c = let l = c .before .loop .inv .0 in record { arguments = l .arguments; asked = l .asked; placed = l .placed }
 
 pub arguments-spec : {M : Type 1} → statement M
 arguments-spec =

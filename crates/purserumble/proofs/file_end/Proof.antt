@@ -2,7 +2,7 @@
 use mathlib.Core.Path.{_≡_, sym, ap, _∙_}
 use mir.Syntax.{w64}
 use mir.ValLaws.{toZ-ofZ}
-use Rattle.purserumble.specs.Run.{below0}
+use Rattle.purserumble.specs.Reads.{below0}
 use borrow.Author.Needs.{needs}
 use Rattle.purserumble.proofs.file_end.Statement.{statement}
 use Rattle.purserumble.proofs.file_end.Tie as tie

@@ -1,33 +1,40 @@
--- `purserumble::hear` meets its contract. The invariant: the pieces so far were taken. The measure is how many bytes more a message may have.
+-- `purserumble::hear` meets its contract. The invariant: what was heard is what the reads so far give. The measure is how many turns are left.
 -- Assumes nothing.
-use mathlib.Core.Path.{_≡_, sym, ap, _∙_}
-use mathlib.Core.List.{List, []}
-use Prim.Native.Nat.{ℕ, _-_}
+use mathlib.Core.Path.{_≡_, ap, _∙_}
+use mathlib.Core.Bool.{true}
+use mathlib.Core.List.{List}
+use Prim.Native.Nat.{ℕ}
 use native.Mathlib.Omega.{arith}
-use borrow.Author.Needs.{needs}
-use borrow.Author.Tests.{not-false}
-use lib.ListN.{length, take}
-use Rattle.refusal.specs.Refusal.{isNothing}
-use Rattle.refusal.specs.declared.Refusal.the-variants.{Nothing}
-use Rattle.hasher.specs.Hasher.{mostBytes, taken, updated}
-use Rattle.hasher.specs.declared.Updated.{Updated}
-use Rattle.refusal.proofs.Chains.{nothing-is}
-use Rattle.purserumble.specs.Run.{Fed}
-use Rattle.purserumble.proofs.Feeding.{fed-none, fed-more, less-left, still-long}
+use borrow.Author.Needs.{needs, sfits-of}
+use lib.IntN.{ℤ}
+use lib.ListN.{length}
+use mir.Syntax.{w64}
+use mir.ValLaws.{toZ-ofZ}
+use Rattle.purserumble.specs.Reads.{Read, readOf, heardWith}
+use Rattle.purserumble.proofs.Hearing.{SoFar, none-yet, one-more, turnsLeft, less-left, still-long}
 use Rattle.purserumble.proofs.hear.Statement.{statement}
 use Rattle.purserumble.proofs.hear.Tie as tie
 
 abbrev Inv-loop : tie.InvT-loop
-Inv-loop table buf₀ h₀ buf h = (length buf ≡ 65536) × (length (h .pending) ≡ 64) × Fed h₀ table Nothing h
+Inv-loop table buf₀ heard₀ buf heard =
+    (length buf ≡ 65536) × (heard .more ≡ true → length (heard .hasher .pending) ≡ 64) × SoFar (heard₀ .hasher) table heard
 
 abbrev μ-loop : tie.MeasureT-loop
-μ-loop table buf₀ h₀ buf h = mostBytes - taken h
+μ-loop table buf₀ heard₀ buf heard = turnsLeft heard
 
 large-buffer-requires : tie.Need-large-buffer-requires Inv-loop μ-loop
 large-buffer-requires c κs = search needs
 
+nothing-heard-requires : tie.Need-nothing-heard-requires Inv-loop μ-loop
+nothing-heard-requires c κs = search needs
+
 loop-holds : tie.Need-loop-holds Inv-loop μ-loop
-loop-holds c = (search needs, search needs, fed-none (c .before .before .args .start) (c .before .before .args .table .now))
+loop-holds c =
+    let a = c .before .before .before .args in (
+      search needs,
+      λ m. rw (c .nothing-heard .ensures) (search needs),
+      rw (c .nothing-heard .ensures) (none-yet (a .start) (a .table .now)),
+    )
 
 slice-aggregate-read : tie.Need-slice-aggregate-read Inv-loop μ-loop
 slice-aggregate-read c = search needs
@@ -35,79 +42,51 @@ slice-aggregate-read c = search needs
 read-requires : tie.Need-read-requires Inv-loop μ-loop
 read-requires c κs = search needs
 
-slice-aggregate-count : tie.Need-slice-aggregate-count Inv-loop μ-loop
-slice-aggregate-count c = search needs
+slice-aggregate-hear-one : tie.Need-slice-aggregate-hear-one Inv-loop μ-loop
+slice-aggregate-hear-one c = search needs
 
-count-requires : tie.Need-count-requires Inv-loop μ-loop
-count-requires c κs = search needs
+hear-one-requires : tie.Need-hear-one-requires Inv-loop μ-loop
+hear-one-requires c κs = search needs
 
-message-end-requires : tie.Need-message-end-requires Inv-loop μ-loop
-message-end-requires c κs = search needs
+-- the read of this turn
+module _ (c : tie.After-hear-one Inv-loop μ-loop) where
+  abbrev from : tie.After-read Inv-loop μ-loop
+  from = c .before .before .before
 
-returns : tie.Need-returns Inv-loop μ-loop
-returns c = rw (c .message-end .ensures) (c .before .before .before .before .before .before .before .loop .inv .2)
-
-array-share-prefix-buf : tie.Need-array-share-prefix-buf Inv-loop μ-loop
-array-share-prefix-buf c = search needs
-
-slice-aggregate-update : tie.Need-slice-aggregate-update Inv-loop μ-loop
-slice-aggregate-update c = search needs
-
-sub-update : tie.Need-sub-update Inv-loop μ-loop
-sub-update c = search needs
-
-part-update-start : tie.Need-part-update-start Inv-loop μ-loop
-part-update-start c = search needs
-
-part-update-end : tie.Need-part-update-end Inv-loop μ-loop
-part-update-end c = search needs
-
-update-requires : tie.Need-update-requires Inv-loop μ-loop
-update-requires c κs = search needs
-
-is-nothing-requires : tie.Need-is-nothing-requires Inv-loop μ-loop
-is-nothing-requires c κs = search needs
-
-returns-2 : tie.Need-returns-2 Inv-loop μ-loop
-returns-2 c =
-    let u = c .before .before .before in
-    let n = u .before .before .before .before in
-    let r = n .before .before .before in
-    rw (u .update .ensures) (fed-more (r .before .before .loop .inv .2) (take (n .count .result) (r .read .last .1 .0)))
-
--- the piece of this turn, and that its update is not refused
-module _ (c : tie.Else2 Inv-loop μ-loop) where
-  abbrev before : tie.After-read Inv-loop μ-loop
-  before = c .before .before .before .before .before .before .before .before .before .before
-
-  abbrev piece : List ℕ
-  piece = take (c .before .before .before .before .before .before .before .count .result) (before .read .last .1 .0)
+  abbrev at : tie.In-loop Inv-loop μ-loop
+  at = from .before .before .before
 
   abbrev given : List ℕ
-  given = before .before .before .before .before .before .args .table .now
+  given = at .before .before .before .before .before .args .table .now
 
-  accepted : updated (before .before .before .loop .h) piece given [] .refusal ≡ Nothing
-  accepted =
-      nothing-is _
-      (sym (ap (λ (v : Updated). isNothing (v .refusal)) (c .before .before .before .update .ensures))
-      ∙ sym (c .before .is-nothing .ensures)
-      ∙ not-false _ (c .if2 .left))
+  abbrev read : Read
+  read = readOf (from .read .result) (from .read .last .1 .0)
+
+  told : c .hear-one .result ≡ heardWith (at .before .loop .heard .hasher) given read
+  told =
+      c .hear-one .ensures
+      ∙ ap (λ (z : ℤ). heardWith (at .before .loop .heard .hasher) given (readOf z (from .read .last .1 .0))) (toZ-ofZ w64 (from .read .result) (sfits-of (from .read .ok)))
 
 loop-less : tie.Need-loop-less Inv-loop μ-loop
 loop-less c =
-    let l = before c .before .before .loop in
-    let n = c .before .before .before .before .before .before in
-    rw (c .before .before .before .update .ensures)
-    (less-left (l .h) (piece c) (given c) (l .inv .1) (accepted c) (omega (arith, n .if1 .left, n .before .count .ensures .0)))
+    let l = at c .before .loop in
+    let more = at c .loop-test .taken in
+    rw (told c) (less-left (l .heard) (given c) (read c) more (l .inv .1 more))
 
 loop-again : tie.Need-loop-again Inv-loop μ-loop
 loop-again c =
-    let l = before c .before .before .loop in
-    let e = c .before .before .before .update .ensures in (
-      omega (arith, before c .read .kept .1 .0, l .inv .0),
-      rw e (still-long (l .h) (piece c) (given c) (l .inv .1) (accepted c)),
-      rw (e, ← accepted c) (fed-more (l .inv .2) (piece c)),
+    let l = at c .before .loop in
+    let more = at c .loop-test .taken in
+    let e = told c in (
+      omega (arith, from c .read .kept .1 .0, l .inv .0),
+      λ m. rw e (still-long (l .heard .hasher) (given c) (read c) (l .inv .1 more) (rw e at m)),
+      rw e (one-more (l .inv .2) more (read c) (rw (from c .read .kept .1 .0) (from c .read .ensures))),
     )
+
+returns : tie.Need-returns Inv-loop μ-loop
+returns c =
+    let l = c .before .loop .inv .2 in
+    record { reads = l .reads; possible = l .possible; heard = rw (c .before .before .nothing-heard .ensures) at (l .heard); ended = c .loop-test .left }
 
 pub hear-spec : {M : Type 1} → statement M
 hear-spec =
@@ -116,20 +95,12 @@ hear-spec =
     Inv-loop
     μ-loop
     large-buffer-requires
+    nothing-heard-requires
     loop-holds
     slice-aggregate-read
     read-requires
-    slice-aggregate-count
-    count-requires
-    message-end-requires
-    returns
-    array-share-prefix-buf
-    slice-aggregate-update
-    sub-update
-    part-update-start
-    part-update-end
-    update-requires
-    is-nothing-requires
-    returns-2
+    slice-aggregate-hear-one
+    hear-one-requires
     loop-less
-    loop-again)
+    loop-again
+    returns)

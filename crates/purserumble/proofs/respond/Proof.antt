@@ -1,12 +1,17 @@
 -- `purserumble::respond` meets its contract. Assumes nothing.
 use mathlib.Core.Path.{_∙_}
-use mathlib.Core.Bool.{false}
 use mathlib.Core.List.{[]}
-use Rattle.purserumble.specs.Run.{unreadable}
+use Prim.Native.Nat.{ℕ}
+use lib.IntN.{negsuc}
+use Rattle.purserumble.specs.Files.{File}
 use Rattle.purserumble.proofs.Answered.{asks-bad, asks-table, asks-none}
 use borrow.Author.Needs.{needs}
 use Rattle.purserumble.proofs.respond.Statement.{statement}
 use Rattle.purserumble.proofs.respond.Tie as tie
+
+-- no file was opened
+abbrev none : ℕ → File
+none i = record { fd = negsuc 0; reads = [] }
 
 arguments-requires : tie.Need-arguments-requires
 arguments-requires c κs = search needs
@@ -18,9 +23,9 @@ returns : tie.Need-returns
 returns c =
     let a = c .before .before .before .arguments .ensures in
     record {
-      words = a .words;
-      file = unreadable;
-      answers = record { pieces = []; failed = false; answered = c .silent .ensures ∙ asks-bad a unreadable [] false (c .before .if1 .taken) };
+      arguments = a .arguments;
+      files = none;
+      answers = record { reads = []; possible = tt; answered = rw (c .silent .ensures) (asks-bad a none [] (c .before .if1 .taken)) };
     }
 
 flags-of-requires : tie.Need-flags-of-requires
@@ -36,13 +41,9 @@ returns-2 c =
     let r = rw (c .before .before .flags-of .ensures) at (c .run-file .ensures) in
     let n = r .answers in
     record {
-      words = a .words;
-      file = r .file;
-      answers = record {
-        pieces = n .pieces;
-        failed = n .failed;
-        answered = n .answered ∙ asks-table a (r .file) (n .pieces) (n .failed) (i .if1 .left) (c .before .if2 .taken);
-      };
+      arguments = a .arguments;
+      files = r .files;
+      answers = record { reads = n .reads; possible = n .possible; answered = asks-table a (r .files) (n .reads) (i .if1 .left) (c .before .if2 .taken) ∙ n .answered };
     }
 
 sub-run : tie.Need-sub-run
@@ -63,13 +64,9 @@ returns-3 c =
     let a = g .before .before .before .arguments .ensures in
     let n = rw (g .flags-of .ensures) at (c .run .ensures) in
     record {
-      words = a .words;
-      file = unreadable;
-      answers = record {
-        pieces = n .pieces;
-        failed = n .failed;
-        answered = n .answered ∙ asks-none a unreadable (n .pieces) (n .failed) (g .before .if1 .left) (c .before .before .before .if2 .left);
-      };
+      arguments = a .arguments;
+      files = none;
+      answers = record { reads = n .reads; possible = n .possible; answered = asks-none a none (n .reads) (g .before .if1 .left) (c .before .before .before .if2 .left) ∙ n .answered };
     }
 
 pub respond-spec : {M : Type 1} → statement M

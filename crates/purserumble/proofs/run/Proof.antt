@@ -1,7 +1,6 @@
 -- `purserumble::run` meets its contract. Assumes nothing.
-use mathlib.Core.Path.{_∙_}
-use Rattle.purserumble.proofs.Answered.{fed-answers}
 use borrow.Author.Needs.{needs}
+use Rattle.purserumble.proofs.Answered.{hears-answers}
 use Rattle.purserumble.proofs.run.Statement.{statement}
 use Rattle.purserumble.proofs.run.Tie as tie
 
@@ -16,9 +15,8 @@ conclude-requires c κs = search needs
 
 returns : tie.Need-returns
 returns c =
-    let h = c .before in
-    let f = rw (h .before .new .ensures) at (h .hear .ensures) in
-    record { pieces = f .pieces; failed = h .hear .result .failed; answered = c .conclude .ensures ∙ fed-answers f (h .hear .result .failed) }
+    let h = rw (c .before .before .new .ensures) at (c .before .hear .ensures) in
+    record { reads = h .reads; possible = h .possible; answered = rw (c .conclude .ensures) (hears-answers h) }
 
 pub run-spec : {M : Type 1} → statement M
 run-spec = tie.close (tie.spec new-requires hear-requires conclude-requires returns)

@@ -1,6 +1,6 @@
 -- `purserumble::run_checked` meets its contract. Assumes nothing.
 use mathlib.Core.Path.{_≡_, sym, ap, _∙_}
-use mathlib.Core.Bool.{true, false}
+use mathlib.Core.Bool.{true}
 use mathlib.Core.List.{List, []}
 use Prim.Native.Nat.{ℕ, _/_, _≤_}
 use native.Mathlib.Omega.{arith}
@@ -10,7 +10,7 @@ use Rattle.refusal.specs.Refusal.{isNothing}
 use Rattle.block.specs.Schedule.{wordAt}
 use Rattle.block.proofs.Fill.{list-length, list-take}
 use Rattle.file.specs.File.{mostWords, tableOf, fileFault}
-use Rattle.purserumble.specs.Run.{answerTo, answerWith}
+use Rattle.purserumble.specs.Run.{answerTo, answerFor}
 use Rattle.purserumble.proofs.Answered.{file-short}
 use borrow.Author.Needs.{needs}
 use Rattle.purserumble.proofs.run_checked.Statement.{statement}
@@ -34,11 +34,11 @@ silent-requires : tie.Need-silent-requires
 silent-requires c κs = search needs
 
 returns : tie.Need-returns
-unfolding answerWith
+unfolding answerFor
 returns c =
     let e = c .before .before .before .file-fault .ensures in
     let n = sym (c .before .before .is-nothing .ensures) ∙ not-true _ (c .before .if1 .taken) in
-    record { pieces = []; failed = false; answered = rw (c .silent .ensures, ← e, n) }
+    record { reads = []; possible = tt; answered = rw (c .silent .ensures, ← e, n) }
 
 file-words-requires : tie.Need-file-words-requires
 file-words-requires c κs = search needs
@@ -57,7 +57,7 @@ run-requires : tie.Need-run-requires
 run-requires c κs = search needs
 
 returns-2 : tie.Need-returns-2
-unfolding answerWith
+unfolding answerFor
 returns-2 c =
     let i = c .before .before .before in
     let a = i .before .before .before .before .args in
@@ -67,9 +67,9 @@ returns-2 c =
     in
     let r = c .run .ensures in
     record {
-      pieces = r .pieces;
-      failed = r .failed;
-      answered = rw (sound i) (r .answered ∙ ap (λ (table : List ℕ). answerTo (a .flags) table (r .pieces) (r .failed)) t);
+      reads = r .reads;
+      possible = r .possible;
+      answered = rw (sound i) (ap (λ (table : List ℕ). answerTo (a .flags) table (r .reads)) (sym t) ∙ r .answered);
     }
 
 pub run-checked-spec : {M : Type 1} → statement M

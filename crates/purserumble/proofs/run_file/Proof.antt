@@ -1,9 +1,7 @@
 -- `purserumble::run_file` meets its contract. Assumes nothing.
 use mathlib.Core.Path.{sym}
-use mathlib.Core.Bool.{false}
-use mathlib.Core.List.{[]}
 use lib.Seq.{length-take-le}
-use Rattle.purserumble.specs.Run.{holds, unreadable, answerWith}
+use Rattle.purserumble.proofs.Answered.{loads-bytes, loads-failed}
 use borrow.Author.Needs.{needs}
 use Rattle.purserumble.proofs.run_file.Statement.{statement}
 use Rattle.purserumble.proofs.run_file.Tie as tie
@@ -18,12 +16,12 @@ enum-known-n : tie.Need-enum-known-n
 enum-known-n c = search needs
 
 array-share-prefix-bytes : tie.Need-array-share-prefix-bytes
-array-share-prefix-bytes c = rw (c .before .n .given .1) at (c .before .before .before .before .load .ensures)
+array-share-prefix-bytes c = rw (c .before .n .given .1) at (c .before .before .before .before .load .ensures .fits)
 
 slice-aggregate-run-checked : tie.Need-slice-aggregate-run-checked
 slice-aggregate-run-checked c =
     let l = c .before .before .before .before .before .load in
-    sym (length-take-le (c .before .before .n .given .0 .0) (l .last .1 .0) (rw (c .before .before .n .given .1) at (l .ensures)))
+    sym (length-take-le (c .before .before .n .given .0 .0) (l .last .1 .0) (rw (c .before .before .n .given .1) at (l .ensures .fits)))
 
 run-checked-requires : tie.Need-run-checked-requires
 run-checked-requires c κs = search needs
@@ -35,11 +33,15 @@ silent-requires : tie.Need-silent-requires
 silent-requires c κs = search needs
 
 returns : tie.Need-returns
-returns c = record { file = holds _; answers = c .run-checked .ensures }
+returns c =
+    let n = c .before .before .before in
+    let l = n .before .before .before in
+    loads-bytes (l .load .ensures) (search needs) (l .before .before .args .flags) (l .before .before .args .i) (n .n .given .0 .0) (n .n .given .1) (c .run-checked .ensures)
 
 returns-2 : tie.Need-returns-2
-unfolding answerWith
-returns-2 c = record { file = unreadable; answers = record { pieces = []; failed = false; answered = c .silent .ensures } }
+returns-2 c =
+    let l = c .before .before .before .before in
+    rw (c .silent .ensures) (loads-failed (l .load .ensures) (search needs) (l .before .before .args .flags) (l .before .before .args .i) (c .before .enum-told .given .1))
 
 pub run-file-spec : {M : Type 1} → statement M
 run-file-spec =

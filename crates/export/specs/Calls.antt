@@ -8,7 +8,6 @@ use Rattle.word.specs.Choice.{pick}
 use Rattle.refusal.specs.Refusal.{numberOf, placeOf}
 use Rattle.refusal.specs.declared.Refusal.{Refusal}
 use Rattle.verdict.specs.Verdict.{digestSize}
-use Rattle.verdict.specs.declared.Verdict.{Verdict}
 use Rattle.table.specs.Table.{tableFault}
 use Rattle.detect.specs.Detect.{oneBlockOf}
 use Rattle.detect.specs.declared.Mode.{Mode}
@@ -28,7 +27,7 @@ use Rattle.sheet.specs.declared.Comparison.{Comparison}
 use Rattle.sheet.specs.declared.Comparison.the-variants.{Match, Differs, Absent}
 use Rattle.sheet.specs.declared.Compared.{Compared}
 use Rattle.sheet.specs.declared.Compared.the-variants.{Said}
-use Rattle.export.specs.Layout.{bitOf, hasherIn, slicesOf, hasherFits, verdictNumber}
+use Rattle.export.specs.Layout.{bitOf, hasherIn, slicesOf, hasherFits, verdictNumber, verdictKnown, verdictFor}
 
 -- the number that a call gives back, and the contents of the slices that it may write, in the order of its parameters
 pub record Left : Type 0 where
@@ -39,13 +38,13 @@ pub record Left : Type 0 where
 abbrev pub left : ℕ → List (List ℕ) → Left
 left n s = record { number = n; slices = s }
 
--- the number where a slice has another length than the fixed one
-abbrev pub wrongLength : ℕ
-wrongLength = 255
+-- the number where a caller breaks the agreement of the header: a fixed length, a mark, flags or a verdict
+abbrev pub brokenAgreement : ℕ
+brokenAgreement = 255
 
--- what a call leaves, if the slices have their lengths; else it leaves them as they were
+-- what a call leaves, if the agreement is kept; else it leaves all slices as they were
 abbrev pub guarded : Bool → Left → List (List ℕ) → Left
-guarded fits done before = pick fits done (left wrongLength before)
+guarded kept done before = pick kept done (left brokenAgreement before)
 
 -- the two numbers of an answer: what the call says, and the place of the refused record
 abbrev pub answerPair : ℕ → Refusal → List ℕ
@@ -62,21 +61,23 @@ outcomeAnswer o = answerPair (verdictIn o) (outcomeRefusal o)
 
 -- the number of a comparison's answer, 0 on a refusal
 abbrev pub comparisonIn : Compared → ℕ
-comparisonIn (Said Match) = 0
-comparisonIn (Said Differs) = 1
-comparisonIn (Said Absent) = 2
+comparisonIn (Said Match) = 1
+comparisonIn (Said Differs) = 2
+comparisonIn (Said Absent) = 3
 comparisonIn (Compared.Refused r) = 0
 
--- what one block leaves: the words; mark, place, tried and the refused record's place
+-- what one block leaves: the new words; mark, place, tried and the refused record's place
 abbrev pub blockLeft : OneBlock → Left
 blockLeft o =
     left (numberOf (o .refusal))
     (o .words ∷ (bitOf (o .found .mark) ∷ o .found .place ∷ o .found .tried ∷ placeOf (o .refusal) ∷ []) ∷ [])
 
 -- the call of one block
-unfoldable pub blockCall : List ℕ → List ℕ → List ℕ → ℕ → Mode → List ℕ → Left
-blockCall words block table mask mode answer =
-    guarded (eqb (length words) 5 && eqb (length answer) 4) (blockLeft (oneBlockOf words block table mask mode)) (words ∷ answer ∷ [])
+unfoldable pub blockCall : List ℕ → List ℕ → List ℕ → ℕ → Mode → List ℕ → List ℕ → Left
+blockCall words block table mask mode after answer =
+    guarded (eqb (length words) 5 && (eqb (length after) 5 && eqb (length answer) 4))
+    (blockLeft (oneBlockOf words block table mask mode))
+    (after ∷ answer ∷ [])
 
 -- what an update or a reset leaves: the hasher, and the refused record's place
 abbrev pub updatedLeft : Updated → Left
@@ -85,14 +86,14 @@ updatedLeft u = left (numberOf (u .refusal)) (slicesOf (u .hasher) ++ answerPair
 -- the call of an update
 unfoldable pub updateCall : List ℕ → List ℕ → List ℕ → List ℕ → List ℕ → List ℕ → List ℕ → Left
 updateCall words pending state bytes table masks answer =
-    guarded (hasherFits (length words) (length pending) (length state) && eqb (length answer) 2)
+    guarded (hasherFits (length words) (length pending) state && eqb (length answer) 2)
     (updatedLeft (updated (hasherIn words pending state) bytes table masks))
     (words ∷ pending ∷ state ∷ answer ∷ [])
 
 -- the call of a reset
 unfoldable pub resetCall : List ℕ → List ℕ → List ℕ → List ℕ → Left
 resetCall words pending state answer =
-    guarded (hasherFits (length words) (length pending) (length state) && eqb (length answer) 2)
+    guarded (hasherFits (length words) (length pending) state && eqb (length answer) 2)
     (updatedLeft (resetOf (hasherIn words pending state)))
     (words ∷ pending ∷ state ∷ answer ∷ [])
 
@@ -104,7 +105,7 @@ digestLeft o digest = left (numberOf (outcomeRefusal o)) (digest ∷ outcomeAnsw
 unfoldable pub finishCall : List ℕ → List ℕ → List ℕ → List ℕ → List ℕ → List ℕ → List ℕ → Left
 finishCall words pending state digest table masks answer =
     let f = finished (hasherIn words pending state) table masks in
-    guarded (hasherFits (length words) (length pending) (length state) && (eqb (length digest) digestSize && eqb (length answer) 2))
+    guarded (hasherFits (length words) (length pending) state && (eqb (length digest) digestSize && eqb (length answer) 2))
     (digestLeft (f .outcome) (f .digest))
     (digest ∷ answer ∷ [])
 
@@ -119,7 +120,7 @@ unfoldable pub closeCall : List ℕ → List ℕ → List ℕ → List ℕ → L
 closeCall words pending state out table masks answer =
     let h = hasherIn words pending state in
     let c = closed h (length out) table masks in
-    guarded (hasherFits (length words) (length pending) (length state) && eqb (length answer) 2)
+    guarded (hasherFits (length words) (length pending) state && eqb (length answer) 2)
     (left (numberOf (outcomeRefusal (c .outcome))) (slicesOf (c .hasher) ++ writtenOut h out table masks ∷ outcomeAnswer (c .outcome) ∷ []))
     (words ∷ pending ∷ state ∷ out ∷ answer ∷ [])
 
@@ -140,6 +141,8 @@ abbrev pub comparedLeft : Compared → Left
 comparedLeft c = left (comparedNumber c) ((comparisonIn c ∷ 0 ∷ []) ∷ [])
 
 -- the call of a comparison
-unfoldable pub compareCall : List ℕ → List ℕ → Verdict → List ℕ → List ℕ → Left
+unfoldable pub compareCall : List ℕ → List ℕ → ℕ → List ℕ → List ℕ → Left
 compareCall sheet code verdict digest answer =
-    guarded (eqb (length digest) digestSize && eqb (length answer) 2) (comparedLeft (comparedOf sheet code verdict digest)) (answer ∷ [])
+    guarded (verdictKnown verdict && (eqb (length digest) digestSize && eqb (length answer) 2))
+    (comparedLeft (comparedOf sheet code (verdictFor verdict) digest))
+    (answer ∷ [])

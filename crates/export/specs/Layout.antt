@@ -2,7 +2,7 @@
 use mathlib.Core.Bool.{Bool, _&&_}
 use mathlib.Core.List.{List, [], _∷_}
 use Prim.Native.Nat.{ℕ, _+_, _*_, _/_, _%_}
-use lib.Dec.{eqb}
+use lib.Dec.{ltb, leb, eqb}
 use lib.ListN.{length, getD}
 use Rattle.word.specs.Choice.{pick}
 use Rattle.verdict.specs.declared.Verdict.{Verdict}
@@ -19,7 +19,7 @@ bitOf b = pick b 1 0
 abbrev pub hasWorth : ℕ → ℕ → Bool
 hasWorth x worth = eqb (x / worth % 2) 1
 
--- the flags in a number: 1 detect, 2 mitigate, 4 masks lent, 8 reduced; other bits are not looked at
+-- the flags in a number: 1 detect, 2 mitigate, 4 masks lent, 8 reduced
 unfoldable pub flagsIn : ℕ → Flags
 flagsIn x =
     record { detect = hasWorth x 1; mitigate = hasWorth x 2; masks = masksOf (hasWorth x 4); reduced = hasWorth x 8 }
@@ -41,16 +41,24 @@ stateOf h = h .fill ∷ h .blocks ∷ bitOf (h .mark) ∷ flagsNumber (h .flags)
 abbrev pub slicesOf : Hasher → List (List ℕ)
 slicesOf h = h .words ∷ h .pending ∷ stateOf h ∷ []
 
--- whether the slices of a hasher have their fixed lengths
-abbrev pub hasherFits : ℕ → ℕ → ℕ → Bool
-hasherFits words pending state = eqb words 5 && (eqb pending 64 && eqb state 4)
+-- whether a state is one that a hasher is written as: four numbers, the mark 0 or 1, no flag beyond the four
+abbrev pub stateFits : List ℕ → Bool
+stateFits state = eqb (length state) 4 && (leb (getD state 2 0) 1 && leb (getD state 3 0) 15)
 
--- a verdict as a number
+-- whether a hasher lies in slices of so many words and pending bytes, and such a state
+abbrev pub hasherFits : ℕ → ℕ → List ℕ → Bool
+hasherFits words pending state = eqb words 5 && (eqb pending 64 && stateFits state)
+
+-- a verdict as a number; 0 is left for none
 abbrev pub verdictNumber : Verdict → ℕ
-verdictNumber Ok = 0
-verdictNumber Mitigated = 1
-verdictNumber Collision = 2
+verdictNumber Ok = 1
+verdictNumber Mitigated = 2
+verdictNumber Collision = 3
 
--- the verdict that a number stands for; 2 and all above are a collision
+-- whether a number stands for a verdict
+abbrev pub verdictKnown : ℕ → Bool
+verdictKnown x = ltb 0 x && ltb x 4
+
+-- the verdict that such a number stands for
 abbrev pub verdictFor : ℕ → Verdict
-verdictFor x = pick (eqb x 0) Ok (pick (eqb x 1) Mitigated Collision)
+verdictFor x = pick (eqb x 1) Ok (pick (eqb x 2) Mitigated Collision)

@@ -1,6 +1,6 @@
 // The calls for programs in C and Rust, as compare/proved.h declares them. A slice passes as a pointer and a length.
-// Where a slice has another length than the fixed one, a call returns 255 and changes nothing: no other number is
-// above 16, and a caller that breaks the agreement on lengths is told so instead of being trapped.
+// Where a caller breaks the header's agreement on lengths, marks, flags and verdicts, a call returns 255 and changes
+// nothing: no other number is above 16, and the caller is told so instead of being trapped.
 ghost use mathlib.Core.Path.{_≡_};
 ghost use mathlib.Core.Bool.{_&&_};
 ghost use mathlib.Core.List.{[], _∷_};
@@ -12,7 +12,7 @@ ghost use Rattle.refusal.specs.Refusal.{numberOf};
 ghost use Rattle.verdict.specs.Verdict.{digestSize};
 ghost use Rattle.finish.specs.Finish.{outcomeRefusal};
 ghost use Rattle.sheet.specs.Compare.{comparedNumber};
-ghost use Rattle.export.specs.Layout.{bitOf, hasWorth, flagsIn, flagsNumber, hasherIn, stateOf, hasherFits, verdictNumber, verdictFor};
+ghost use Rattle.export.specs.Layout.{bitOf, hasWorth, flagsIn, flagsNumber, hasherIn, stateOf, stateFits, hasherFits, verdictNumber, verdictKnown, verdictFor};
 ghost use Rattle.export.specs.Calls.{left, answerPair, verdictIn, outcomeAnswer, comparisonIn, updatedLeft, digestLeft, blockCall, updateCall, resetCall, finishCall, oneShotCall, closeCall, tableCall, lookupCall, compareCall};
 use detect::Mode;
 use detect::one_block;
@@ -39,7 +39,7 @@ use stream::Masks;
 use table::table_fault;
 use verdict::Verdict;
 
-pub const WRONG_LENGTH: u32 = 255;
+pub const BROKEN_AGREEMENT: u32 = 255;
 
 // Copies between lent slices and arrays: a loop over bytes, and a store for each of five words.
 
@@ -153,9 +153,22 @@ fn flags_number(f: Flags) -> u64
     bit_of(f.detect) + 2 * bit_of(f.mitigate) + 4 * masks_bit(masks) + 8 * bit_of(f.reduced)
 }
 
-// Whether the slices of a hasher have their fixed lengths, and the rest of what a call asks holds.
-fn hasher_fits(words: usize, pending: usize, state: usize, rest: bool) -> bool
-    ensures { λ r. ⌜ r ≡ (hasherFits words pending state && rest) ⌝ }
+// Whether a state is one that a hasher is written as: what is handed back on a refusal is then what was lent.
+fn state_fits(state: &[u64]) -> bool
+    ensures { λ r. ⌜ r ≡ stateFits (now (state .entry)) ⌝ }
+{
+    if state.len() != 4 {
+        return false;
+    }
+    if state[2] > 1 {
+        return false;
+    }
+    state[3] <= 15
+}
+
+// Whether a hasher lies in its slices, and the rest of what a call asks holds.
+fn hasher_fits(words: usize, pending: usize, state: &[u64], rest: bool) -> bool
+    ensures { λ r. ⌜ r ≡ (hasherFits words pending (now (state .entry)) && rest) ⌝ }
 {
     if words != 5 {
         return false;
@@ -163,7 +176,7 @@ fn hasher_fits(words: usize, pending: usize, state: usize, rest: bool) -> bool
     if pending != 64 {
         return false;
     }
-    if state != 4 {
+    if !state_fits(state) {
         return false;
     }
     rest
@@ -177,6 +190,32 @@ fn digest_fits(digest: usize, answer: usize) -> bool
         return false;
     }
     answer == 2
+}
+
+// Whether a number stands for a verdict, and the rest of what a call asks holds.
+fn verdict_fits(verdict: u32, rest: bool) -> bool
+    ensures { λ r. ⌜ r ≡ (verdictKnown verdict && rest) ⌝ }
+{
+    if verdict == 0 {
+        return false;
+    }
+    if verdict > 3 {
+        return false;
+    }
+    rest
+}
+
+// Whether the words before and after a block, and the answer, have their fixed lengths.
+fn block_fits(words: usize, after: usize, answer: usize) -> bool
+    ensures { λ r. ⌜ r ≡ (eqb words 5 && (eqb after 5 && eqb answer 4)) ⌝ }
+{
+    if words != 5 {
+        return false;
+    }
+    if after != 5 {
+        return false;
+    }
+    answer == 4
 }
 
 // The hasher that lies in three lent slices.
@@ -221,19 +260,19 @@ fn verdict_number(v: Verdict) -> u64
     ensures { λ r. ⌜ r ≡ verdictNumber v ⌝ }
 {
     match v {
-        Verdict::Ok => 0,
-        Verdict::Mitigated => 1,
-        Verdict::Collision => 2,
+        Verdict::Ok => 1,
+        Verdict::Mitigated => 2,
+        Verdict::Collision => 3,
     }
 }
 
 fn verdict_for(x: u32) -> Verdict
     ensures { λ r. ⌜ r ≡ verdictFor x ⌝ }
 {
-    if x == 0 {
+    if x == 1 {
         return Verdict::Ok;
     }
-    if x == 1 {
+    if x == 2 {
         return Verdict::Mitigated;
     }
     Verdict::Collision
@@ -262,9 +301,9 @@ fn comparison_in(c: Compared) -> u64
 {
     match c {
         Compared::Said(a) => match a {
-            Comparison::Match => 0,
-            Comparison::Differs => 1,
-            Comparison::Absent => 2,
+            Comparison::Match => 1,
+            Comparison::Differs => 2,
+            Comparison::Absent => 3,
         },
         Compared::Refused(_) => 0,
     }
@@ -324,21 +363,19 @@ fn put_digest(digest: &mut [u8], answer: &mut [u64], d: [u8; DIGEST_SIZE], o: Ou
 
 #[no_mangle]
 pub extern "C" fn purserumble_one_block(
-    words: &mut [u32],
+    words: &[u32],
     block: &[u8],
     table: &[u32],
     mask: u32,
     mitigate: bool,
     reduced: bool,
+    after: &mut [u32],
     answer: &mut [u64],
 ) -> u32
-    ensures { λ r. ⌜ left r (now (words .exit) ∷ now (answer .exit) ∷ []) ≡ blockCall (now (words .entry)) (now (block .entry)) (now (table .entry)) mask (record { mitigate = mitigate; reduced = reduced }) (now (answer .entry)) ⌝ }
+    ensures { λ r. ⌜ left r (now (after .exit) ∷ now (answer .exit) ∷ []) ≡ blockCall (now (words .entry)) (now (block .entry)) (now (table .entry)) mask (record { mitigate = mitigate; reduced = reduced }) (now (after .entry)) (now (answer .entry)) ⌝ }
 {
-    if words.len() != 5 {
-        return WRONG_LENGTH;
-    }
-    if answer.len() != 4 {
-        return WRONG_LENGTH;
+    if !block_fits(words.len(), after.len(), answer.len()) {
+        return BROKEN_AGREEMENT;
     }
     let o = one_block(
         words_in(words),
@@ -350,7 +387,7 @@ pub extern "C" fn purserumble_one_block(
     let w = o.words;
     let r = o.refusal;
     let found = o.found;
-    put_words(words, w);
+    put_words(after, w);
     put_four(
         answer,
         bit_of(found.mark),
@@ -373,8 +410,8 @@ pub extern "C" fn purserumble_update(
 ) -> u32
     ensures { λ r. ⌜ left r (now (words .exit) ∷ now (pending .exit) ∷ now (state .exit) ∷ now (answer .exit) ∷ []) ≡ updateCall (now (words .entry)) (now (pending .entry)) (now (state .entry)) (now (bytes .entry)) (now (table .entry)) (now (masks .entry)) (now (answer .entry)) ⌝ }
 {
-    if !hasher_fits(words.len(), pending.len(), state.len(), answer.len() == 2) {
-        return WRONG_LENGTH;
+    if !hasher_fits(words.len(), pending.len(), state, answer.len() == 2) {
+        return BROKEN_AGREEMENT;
     }
     let u = update(hasher_in(words, pending, state), bytes, table, masks);
     put_updated(words, pending, state, answer, u)
@@ -389,8 +426,8 @@ pub extern "C" fn purserumble_reset(
 ) -> u32
     ensures { λ r. ⌜ left r (now (words .exit) ∷ now (pending .exit) ∷ now (state .exit) ∷ now (answer .exit) ∷ []) ≡ resetCall (now (words .entry)) (now (pending .entry)) (now (state .entry)) (now (answer .entry)) ⌝ }
 {
-    if !hasher_fits(words.len(), pending.len(), state.len(), answer.len() == 2) {
-        return WRONG_LENGTH;
+    if !hasher_fits(words.len(), pending.len(), state, answer.len() == 2) {
+        return BROKEN_AGREEMENT;
     }
     let fresh = reset(hasher_in(words, pending, state));
     put_updated(words, pending, state, answer, fresh)
@@ -412,10 +449,10 @@ pub extern "C" fn purserumble_finish(
     if !hasher_fits(
         words.len(),
         pending.len(),
-        state.len(),
+        state,
         digest_fits(digest.len(), answer.len()),
     ) {
-        return WRONG_LENGTH;
+        return BROKEN_AGREEMENT;
     }
     let f = finish(hasher_in(words, pending, state), table, masks);
     let d = f.digest;
@@ -435,8 +472,8 @@ pub extern "C" fn purserumble_finish_and_reset(
 ) -> u32
     ensures { λ r. ⌜ left r (now (words .exit) ∷ now (pending .exit) ∷ now (state .exit) ∷ now (out .exit) ∷ now (answer .exit) ∷ []) ≡ closeCall (now (words .entry)) (now (pending .entry)) (now (state .entry)) (now (out .entry)) (now (table .entry)) (now (masks .entry)) (now (answer .entry)) ⌝ }
 {
-    if !hasher_fits(words.len(), pending.len(), state.len(), answer.len() == 2) {
-        return WRONG_LENGTH;
+    if !hasher_fits(words.len(), pending.len(), state, answer.len() == 2) {
+        return BROKEN_AGREEMENT;
     }
     let c = finish_and_reset(hasher_in(words, pending, state), out, table, masks);
     let h = c.hasher;
@@ -456,7 +493,7 @@ pub extern "C" fn purserumble_one_shot(
     ensures { λ r. ⌜ left r (now (digest .exit) ∷ now (answer .exit) ∷ []) ≡ oneShotCall (now (bytes .entry)) (now (digest .entry)) (now (table .entry)) (now (masks .entry)) (now (answer .entry)) ⌝ }
 {
     if !digest_fits(digest.len(), answer.len()) {
-        return WRONG_LENGTH;
+        return BROKEN_AGREEMENT;
     }
     let s = one_shot(bytes, table, masks);
     let d = s.digest;
@@ -469,7 +506,7 @@ pub extern "C" fn purserumble_table_fault(table: &[u32], answer: &mut [u64]) -> 
     ensures { λ r. ⌜ left r (now (answer .exit) ∷ []) ≡ tableCall (now (table .entry)) (now (answer .entry)) ⌝ }
 {
     if answer.len() != 2 {
-        return WRONG_LENGTH;
+        return BROKEN_AGREEMENT;
     }
     say(answer, 0, table_fault(table))
 }
@@ -480,7 +517,7 @@ pub extern "C" fn purserumble_lookup(sheet: &[u8], code: &[u8], part: &mut [u64]
     ensures { λ r. ⌜ left r (now (part .exit) ∷ []) ≡ lookupCall (now (sheet .entry)) (now (code .entry)) (now (part .entry)) ⌝ }
 {
     if part.len() != 2 {
-        return WRONG_LENGTH;
+        return BROKEN_AGREEMENT;
     }
     let found = lookup(sheet, code);
     let n = found.len();
@@ -496,10 +533,10 @@ pub extern "C" fn purserumble_compare(
     digest: &[u8],
     answer: &mut [u64],
 ) -> u32
-    ensures { λ r. ⌜ left r (now (answer .exit) ∷ []) ≡ compareCall (now (sheet .entry)) (now (code .entry)) (verdictFor verdict) (now (digest .entry)) (now (answer .entry)) ⌝ }
+    ensures { λ r. ⌜ left r (now (answer .exit) ∷ []) ≡ compareCall (now (sheet .entry)) (now (code .entry)) verdict (now (digest .entry)) (now (answer .entry)) ⌝ }
 {
-    if !digest_fits(digest.len(), answer.len()) {
-        return WRONG_LENGTH;
+    if !verdict_fits(verdict, digest_fits(digest.len(), answer.len())) {
+        return BROKEN_AGREEMENT;
     }
     let c = compare(sheet, code, verdict_for(verdict), digest_in(digest));
     put_two(answer, comparison_in(c), 0);

@@ -22,7 +22,11 @@ returns c =
     refused (rw (f .before .digest-fits .ensures) at (f .hasher-fits .ensures)) (c .if1 .taken) _ _
 
 hasher-in-requires : tie.Need-hasher-in-requires
-hasher-in-requires c κs = hasher-lengths _ _ _ (fit _ _ (c .before .hasher-fits .ensures) (c .if1 .left) .0)
+hasher-in-requires c κs =
+    let f = c .before in
+    let a = f .before .before .before .before .before .before .before .before .before .args in
+    let t = hasherFits (length (a .words .now)) (length (a .pending .now)) (a .state .now) in
+    hasher-lengths _ _ (a .state .now) (fit t _ (f .hasher-fits .ensures) (c .if1 .left) .0)
 
 finish-requires : tie.Need-finish-requires
 finish-requires c κs = search needs
@@ -32,7 +36,7 @@ put-digest-requires c κs =
     let g = c .before .before .before .before .before in
     let f = g .before in
     let a = f .before .before .before .before .before .before .before .before .before .args in
-    let d = both-true _ _ (fit (hasherFits (length (a .words .now)) (length (a .pending .now)) (length (a .state .now))) _ (rw (f .before .digest-fits .ensures) at (f .hasher-fits .ensures)) (g .if1 .left) .1) in
+    let d = both-true _ _ (fit (hasherFits (length (a .words .now)) (length (a .pending .now)) (a .state .now)) _ (rw (f .before .digest-fits .ensures) at (f .hasher-fits .ensures)) (g .if1 .left) .1) in
     (eqb-true _ _ (d .0), eqb-true _ _ (d .1))
 
 same-length : tie.Need-same-length

@@ -1,9 +1,7 @@
 -- `export::purserumble_finish_and_reset` meets its contract. Assumes nothing.
 use lib.ListN.{length}
-use borrow.Author.Tests.{eqb-true}
-use Rattle.export.specs.Layout.{hasherFits}
 use Rattle.export.specs.Calls.{closeCall}
-use Rattle.export.proofs.Guards.{refused, done, fit, hasher-lengths}
+use Rattle.export.proofs.Guards.{refused, done, lengths}
 use borrow.Author.Needs.{needs}
 use Rattle.export.proofs.purserumble_finish_and_reset.Statement.{statement}
 use Rattle.export.proofs.purserumble_finish_and_reset.Tie as tie
@@ -11,12 +9,18 @@ use Rattle.export.proofs.purserumble_finish_and_reset.Tie as tie
 hasher-fits-requires : tie.Need-hasher-fits-requires
 hasher-fits-requires c κs = search needs
 
+same-length : tie.Need-same-length
+same-length c = search needs
+
 returns : tie.Need-returns
 unfolding closeCall
 returns c = refused (c .before .hasher-fits .ensures) (c .if1 .taken) _ _
 
 hasher-in-requires : tie.Need-hasher-in-requires
-hasher-in-requires c κs = hasher-lengths _ _ _ (fit _ _ (c .before .before .before .before .hasher-fits .ensures) (c .before .before .before .if1 .left) .0)
+hasher-in-requires c κs =
+    let g = c .before .before .before in
+    let a = g .before .before .before .before .before .before .before .before .before .before .args in
+    lengths (length (a .words .now)) (length (a .pending .now)) (a .state .now) (length (a .answer .now)) (g .before .hasher-fits .ensures) (g .if1 .left) .0
 
 finish-and-reset-requires : tie.Need-finish-and-reset-requires
 finish-and-reset-requires c κs = search needs
@@ -24,16 +28,14 @@ finish-and-reset-requires c κs = search needs
 put-hasher-requires : tie.Need-put-hasher-requires
 put-hasher-requires c κs =
     let g = c .before .before .before .before .before .before .before .before .before .before .before .before in
-    hasher-lengths _ _ _ (fit _ _ (g .before .hasher-fits .ensures) (g .if1 .left) .0)
+    let a = g .before .before .before .before .before .before .before .before .before .before .args in
+    lengths (length (a .words .now)) (length (a .pending .now)) (a .state .now) (length (a .answer .now)) (g .before .hasher-fits .ensures) (g .if1 .left) .0
 
 put-outcome-requires : tie.Need-put-outcome-requires
 put-outcome-requires c κs =
     let g = c .before .before .before .before .before .before .before .before .before .before .before .before .before .before .before .before .before .before .before .before in
-    let a = g .before .before .before .before .before .before .before .before .before .args in
-    eqb-true _ _ (fit (hasherFits (length (a .words .now)) (length (a .pending .now)) (length (a .state .now))) _ (g .before .hasher-fits .ensures) (g .if1 .left) .1)
-
-same-length : tie.Need-same-length
-same-length c = search needs
+    let a = g .before .before .before .before .before .before .before .before .before .before .args in
+    lengths (length (a .words .now)) (length (a .pending .now)) (a .state .now) (length (a .answer .now)) (g .before .hasher-fits .ensures) (g .if1 .left) .1
 
 same-length-2 : tie.Need-same-length-2
 same-length-2 c = search needs
@@ -46,6 +48,9 @@ same-length-4 c = search needs
 
 same-length-5 : tie.Need-same-length-5
 same-length-5 c = search needs
+
+same-length-6 : tie.Need-same-length-6
+same-length-6 c = search needs
 
 returns-2 : tie.Need-returns-2
 unfolding closeCall
@@ -72,14 +77,15 @@ purserumble-finish-and-reset-spec =
     tie.close
     (tie.spec
     hasher-fits-requires
+    same-length
     returns
     hasher-in-requires
     finish-and-reset-requires
     put-hasher-requires
     put-outcome-requires
-    same-length
     same-length-2
     same-length-3
     same-length-4
     same-length-5
+    same-length-6
     returns-2)

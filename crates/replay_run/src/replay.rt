@@ -1,0 +1,81 @@
+// The lines of a list, one after the other.
+use crate::counts::Counts;
+use crate::counts::counted;
+use crate::counts::more;
+use crate::counts::none;
+use crate::fields::Words;
+use crate::fields::front_words;
+use crate::fields::no_words;
+use crate::fields::words_at;
+use crate::kind::Kind;
+use crate::kind::kind_of;
+use crate::line::after;
+use crate::line::find;
+use crate::one::block;
+use crate::session::Took;
+use crate::session::closed;
+use crate::session::finished;
+use crate::session::fresh;
+use crate::session::unread;
+use crate::session::updated;
+use crate::session::was_reset;
+use hasher::Hasher;
+use refusal::is_nothing;
+use stream::Flags;
+use table::table_fault;
+
+// The table lent after a line.
+fn lent_after(w: Words, k: Kind, line: &[u8]) -> Words {
+    match k {
+        Kind::Table => words_at(line, 1),
+        Kind::Comment
+        | Kind::Block
+        | Kind::Fresh
+        | Kind::Update
+        | Kind::Finish
+        | Kind::Close
+        | Kind::Reset
+        | Kind::Unread => w,
+    }
+}
+
+// What stands where a line has no call of a hasher.
+fn beside(h: Hasher, right: bool) -> Took {
+    Took { right, hasher: h }
+}
+
+fn took(k: Kind, h: Hasher, line: &[u8], table: &[u32]) -> Took {
+    match k {
+        Kind::Comment => beside(h, true),
+        Kind::Table => beside(h, is_nothing(table_fault(table))),
+        Kind::Block => beside(h, block(line, table)),
+        Kind::Fresh => fresh(h, line),
+        Kind::Update => updated(h, line, table),
+        Kind::Finish => finished(h, line, table),
+        Kind::Close => closed(h, line, table),
+        Kind::Reset => was_reset(h),
+        Kind::Unread => unread(h),
+    }
+}
+
+// How many lines of each kind agree.
+pub fn replay(text: &[u8]) -> Counts {
+    let mut counts = none();
+    let mut n = 0;
+    let mut h = Hasher::new(Flags::new());
+    let mut lent = no_words();
+    let mut at = 0;
+    while at < text.len() {
+        let end = find(text, at, b'\n');
+        let line = &text[at..end];
+        let k = kind_of(line);
+        lent = lent_after(lent, k, line);
+        let words = lent.words;
+        let t = took(k, h, line, front_words(&words, lent.len));
+        h = t.hasher;
+        n = more(n);
+        counts = counted(counts, n, k, t.right);
+        at = after(text, end);
+    }
+    counts
+}

@@ -1,7 +1,8 @@
 -- What a comparison with the sheet says. 01, "The barcode sheet and the program".
 use mathlib.Core.Bool.{not}
-use mathlib.Core.List.{List, [], _∷_}
-use Prim.Native.Nat.{ℕ}
+use mathlib.Core.List.{List, [], _∷_, _++_}
+use Prim.Native.Nat.{ℕ, _-_}
+use lib.ListN.{length, replicate}
 use Rattle.word.specs.Choice.{pick}
 use Rattle.refusal.specs.Refusal.{numberOf, isNothing}
 use Rattle.verdict.specs.declared.Verdict.{Verdict}
@@ -16,6 +17,10 @@ abbrev pub comparisonWord : Comparison → List ℕ
 comparisonWord Match = 0x6D ∷ 0x61 ∷ 0x74 ∷ 0x63 ∷ 0x68 ∷ []
 comparisonWord Differs = 0x64 ∷ 0x69 ∷ 0x66 ∷ 0x66 ∷ 0x65 ∷ 0x72 ∷ 0x73 ∷ []
 comparisonWord Absent = 0x61 ∷ 0x62 ∷ 0x73 ∷ 0x65 ∷ 0x6E ∷ 0x74 ∷ []
+
+-- the word in seven bytes, with zeros behind it
+abbrev pub wordBytes : Comparison → List ℕ
+wordBytes a = comparisonWord a ++ replicate (7 - length (comparisonWord a)) 0
 
 -- the number that a comparison gives back, in the table of 01; 0 where it has an answer
 abbrev pub comparedNumber : Compared → ℕ

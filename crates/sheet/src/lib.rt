@@ -3,7 +3,7 @@
 ghost use mathlib.Core.Path.{_≡_};
 ghost use denote.Ref.{ptr};
 ghost use Rattle.sheet.specs.Sheet.{sameBytes, recordFor, lookupRefusal, partFrom, partOf, placeIn};
-ghost use Rattle.sheet.specs.Compare.{comparedOf};
+ghost use Rattle.sheet.specs.Compare.{wordBytes, comparedOf};
 use refusal::Refusal;
 use refusal::is_nothing;
 use verdict::Verdict;
@@ -29,6 +29,17 @@ pub enum Comparison {
 pub enum Compared {
     Said(Comparison),
     Refused(Refusal),
+}
+
+// The word for an answer, with zeros behind it.
+pub fn comparison_word(answer: Comparison) -> [u8; 7]
+    ensures { λ r. ⌜ r ≡ wordBytes answer ⌝ }
+{
+    match answer {
+        Comparison::Match => *b"match\0\0",
+        Comparison::Differs => *b"differs",
+        Comparison::Absent => *b"absent\0",
+    }
 }
 
 // Whether x and y have the same bytes.

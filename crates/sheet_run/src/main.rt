@@ -6,6 +6,7 @@ use refusal::number;
 use sheet::Compared;
 use sheet::Comparison;
 use sheet::compare;
+use sheet::comparison_word;
 use sheet::lookup;
 use sheet::lookup_refusal;
 use verdict::Verdict;
@@ -18,12 +19,25 @@ fn say_number(r: Refusal) {
     io::print_decimal(STDOUT_FILENO, number(r) as u64);
 }
 
-fn say_comparison(answer: Comparison) {
-    match answer {
-        Comparison::Match => say(b"match"),
-        Comparison::Differs => say(b"differs"),
-        Comparison::Absent => say(b"absent"),
+fn say_letter(b: u8) {
+    if b != 0 {
+        say(&[b]);
     }
+}
+
+// A word without the zeros behind it.
+fn say_word(word: &[u8]) {
+    for i in 0..word.len() {
+        say_letter(word[i]);
+    }
+}
+
+fn say_seven(word: &[u8; 7]) {
+    say_word(word);
+}
+
+fn say_comparison(answer: Comparison) {
+    say_seven(&comparison_word(answer));
 }
 
 fn say_refused(r: Refusal) {

@@ -37,14 +37,14 @@ fn place_of(k: Kind) -> usize
 }
 
 // One more. No text is so long that this wraps.
-pub fn more(n: u64) -> u64
+pub(crate) fn more(n: u64) -> u64
     ensures { λ r. ⌜ r ≡ (n + 1) % 2 ^ 64 ⌝ }
 {
     std::num::wrapping_add_u64(n, 1)
 }
 
 // The counts before the first line.
-pub fn none() -> Counts
+pub(crate) fn none() -> Counts
     ensures { λ r. ⌜ r .of ≡ replicate 9 0 ⌝ }
 {
     Counts { of: [0u64; KINDS] }
@@ -73,7 +73,7 @@ fn differed(c: Counts, n: u64) -> Counts
 }
 
 // The counts with line n.
-pub fn counted(c: Counts, n: u64, k: Kind, right: bool) -> Counts
+pub(crate) fn counted(c: Counts, n: u64, k: Kind, right: bool) -> Counts
     ensures { λ r. ⌜ r .of ≡ moreAt (c .of) (pick right (placeOf k) lastPlace) ⌝ }
 {
     if right {
@@ -89,7 +89,7 @@ fn names() -> [u8; 108]
     *b"comments    tables      blocks      hashers     updates     finishes    closings    resets      differences "
 }
 
-pub fn say_counts(c: Counts) {
+pub(crate) fn say_counts(c: Counts) {
     let of = c.of;
     let text = names();
     for i in 0..KINDS {

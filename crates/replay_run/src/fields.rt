@@ -25,14 +25,14 @@ pub struct Words {
 }
 
 // The bytes of a field.
-pub fn run_at(line: &[u8], i: usize) -> Run
+pub(crate) fn run_at(line: &[u8], i: usize) -> Run
     ensures { λ r. ⌜ r ≡ runAt (now (line .entry)) i ⌝ }
 {
     run_of(field(line, i))
 }
 
 // The number that a field is.
-pub fn small_at(line: &[u8], i: usize) -> usize
+pub(crate) fn small_at(line: &[u8], i: usize) -> usize
     ensures { λ r. ⌜ r ≡ smallAt (now (line .entry)) i ⌝ }
 {
     small_of(field(line, i))
@@ -44,7 +44,7 @@ fn words_in(bytes: &[u8; RUN_BYTES]) -> [u32; MOST_WORDS]
     file_words(bytes)
 }
 
-pub fn no_words() -> Words
+pub(crate) fn no_words() -> Words
     ensures { λ r. ⌜ r ≡ noWords ⌝ }
 {
     Words {
@@ -55,7 +55,7 @@ pub fn no_words() -> Words
 }
 
 // The words of a field, the high byte first.
-pub fn words_at(line: &[u8], i: usize) -> Words
+pub(crate) fn words_at(line: &[u8], i: usize) -> Words
     ensures { λ r. ⌜ r ≡ wordsAt (now (line .entry)) i ⌝ }
 {
     let r = run_at(line, i);
@@ -71,7 +71,7 @@ pub fn words_at(line: &[u8], i: usize) -> Words
 }
 
 // The first n bytes, or all of them.
-pub fn front(bytes: &[u8; RUN_BYTES], n: usize) -> &[u8]
+pub(crate) fn front(bytes: &[u8; RUN_BYTES], n: usize) -> &[u8]
     ensures { λ r. ⌜ now r ≡ take n (now (bytes .entry)) ⌝ }
 {
     let all: &[u8] = bytes;
@@ -82,7 +82,7 @@ pub fn front(bytes: &[u8; RUN_BYTES], n: usize) -> &[u8]
 }
 
 // The first n words, or all of them.
-pub fn front_words(words: &[u32; MOST_WORDS], n: usize) -> &[u32]
+pub(crate) fn front_words(words: &[u32; MOST_WORDS], n: usize) -> &[u32]
     ensures { λ r. ⌜ now r ≡ take n (now (words .entry)) ⌝ }
 {
     let all: &[u32] = words;
@@ -93,7 +93,7 @@ pub fn front_words(words: &[u32; MOST_WORDS], n: usize) -> &[u32]
 }
 
 // Whether a field is 1 for a mark and 0 for none.
-pub fn is_mark(line: &[u8], i: usize, mark: bool) -> bool
+pub(crate) fn is_mark(line: &[u8], i: usize, mark: bool) -> bool
     ensures { λ r. ⌜ r ≡ eqb (smallAt (now (line .entry)) i) (pick mark 1 0) ⌝ }
 {
     if mark {
@@ -103,7 +103,7 @@ pub fn is_mark(line: &[u8], i: usize, mark: bool) -> bool
 }
 
 // Whether a field is the run of these bytes.
-pub fn is_bytes(line: &[u8], i: usize, bytes: &[u8; 20]) -> bool
+pub(crate) fn is_bytes(line: &[u8], i: usize, bytes: &[u8; 20]) -> bool
     ensures { λ r. ⌜ (r ≡ true → bytesAt (now (line .entry)) i ≡ now (bytes .entry)) × (bytesAt (now (line .entry)) i ≡ now (bytes .entry) → r ≡ true) ⌝ }
 {
     let r = run_at(line, i);
@@ -112,7 +112,7 @@ pub fn is_bytes(line: &[u8], i: usize, bytes: &[u8; 20]) -> bool
 }
 
 // How many words a field has.
-pub fn word_count(line: &[u8], i: usize) -> usize
+pub(crate) fn word_count(line: &[u8], i: usize) -> usize
     ensures { λ r. ⌜ r ≡ wordsAt (now (line .entry)) i .len ⌝ }
 {
     let r = words_at(line, i);
@@ -120,14 +120,14 @@ pub fn word_count(line: &[u8], i: usize) -> usize
 }
 
 // A field's first word, and its first five.
-pub fn first_at(line: &[u8], i: usize) -> u32
+pub(crate) fn first_at(line: &[u8], i: usize) -> u32
     ensures { λ r. ⌜ r ≡ getD (wordsAt (now (line .entry)) i .words) 0 0 ⌝ }
 {
     let r = words_at(line, i);
     r.words[0]
 }
 
-pub fn five_at(line: &[u8], i: usize) -> [u32; 5]
+pub(crate) fn five_at(line: &[u8], i: usize) -> [u32; 5]
     ensures { λ r. ⌜ r ≡ fiveOf (regsOf (wordsAt (now (line .entry)) i .words)) ⌝ }
 {
     let r = words_at(line, i);
@@ -136,7 +136,7 @@ pub fn five_at(line: &[u8], i: usize) -> [u32; 5]
 }
 
 // Whether a field is these five words.
-pub fn is_five(line: &[u8], i: usize, w: [u32; 5]) -> bool
+pub(crate) fn is_five(line: &[u8], i: usize, w: [u32; 5]) -> bool
     ensures { λ r. ⌜ r ≡ isFive (now (line .entry)) i w ⌝ }
 {
     if word_count(line, i) != 5 {

@@ -111,7 +111,7 @@ fn is_dash(s: &[u8]) -> bool
 }
 
 // The bytes of a field. One dash is a run of none.
-pub fn run_of(s: &[u8]) -> Run
+pub(crate) fn run_of(s: &[u8]) -> Run
     ensures { λ r. ⌜ r ≡ runOf (now (s .entry)) ⌝ }
 {
     if is_run(s) {
@@ -129,7 +129,7 @@ pub fn run_of(s: &[u8]) -> Run
 }
 
 // The number that a field of one or two digits is.
-pub fn small_of(s: &[u8]) -> usize
+pub(crate) fn small_of(s: &[u8]) -> usize
     ensures { λ r. ⌜ r ≡ smallOf (now (s .entry)) ⌝ }
 {
     if !all_digits(s) {

@@ -69,7 +69,7 @@ fn with_fields(k: Kind, n: usize) -> Kind
 }
 
 // A line's kind by its letter and its number of fields.
-pub fn kind_of(line: &[u8]) -> Kind
+pub(crate) fn kind_of(line: &[u8]) -> Kind
     ensures { λ r. ⌜ r ≡ kindOf (now (line .entry)) ⌝ }
 {
     if line.len() == 0 {

@@ -5,7 +5,7 @@ ghost use lib.ListN.{length};
 ghost use Rattle.replay_run.specs.Lines.{space, oneIf, countOf, foundAt, placeAfter, startOf, fieldOf};
 
 // The first place of a byte, not before `from`; the end where there is none.
-pub fn find(s: &[u8], from: usize, b: u8) -> usize
+pub(crate) fn find(s: &[u8], from: usize, b: u8) -> usize
     requires { ⌜ from ≤ length (now s) ⌝ }
     ensures { λ r. ⌜ r ≡ foundAt (now (s .entry)) from b ⌝ }
     ensures { λ r. ⌜ (from ≤ r) × (r ≤ length (now (s .entry))) ⌝ }
@@ -19,7 +19,7 @@ pub fn find(s: &[u8], from: usize, b: u8) -> usize
 }
 
 // The place after one that was found; the end stays the end.
-pub fn after(s: &[u8], at: usize) -> usize
+pub(crate) fn after(s: &[u8], at: usize) -> usize
     ensures { λ r. ⌜ r ≡ placeAfter (now (s .entry)) at ⌝ }
     ensures { λ r. ⌜ r ≤ length (now (s .entry)) ⌝ }
 {
@@ -40,7 +40,7 @@ fn one_if(x: u8, b: u8) -> usize
 }
 
 // How many spaces a line has.
-pub fn spaces(line: &[u8]) -> usize
+pub(crate) fn spaces(line: &[u8]) -> usize
     ensures { λ r. ⌜ r ≡ countOf space (now (line .entry)) ⌝ }
 {
     let mut n = 0;
@@ -63,7 +63,7 @@ fn start_of(line: &[u8], i: usize) -> usize
 }
 
 // Field i of a line, empty where it has not so many.
-pub fn field(line: &[u8], i: usize) -> &[u8]
+pub(crate) fn field(line: &[u8], i: usize) -> &[u8]
     ensures { λ r. ⌜ now r ≡ fieldOf (now (line .entry)) i ⌝ }
 {
     let from = start_of(line, i);

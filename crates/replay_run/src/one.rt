@@ -57,7 +57,7 @@ fn is_given(line: &[u8]) -> bool {
 }
 
 // A block from five words, under the table, with a mask and flags.
-pub fn block(line: &[u8], table: &[u32]) -> bool {
+pub(crate) fn block(line: &[u8], table: &[u32]) -> bool {
     if !is_given(line) {
         return false;
     }

@@ -59,7 +59,7 @@ fn took(k: Kind, h: Hasher, line: &[u8], table: &[u32]) -> Took {
 }
 
 // How many lines of each kind agree.
-pub fn replay(text: &[u8]) -> Counts {
+pub(crate) fn replay(text: &[u8]) -> Counts {
     let mut counts = none();
     let mut n = 0;
     let mut h = Hasher::new(Flags::new());

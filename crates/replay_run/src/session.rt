@@ -29,7 +29,7 @@ pub struct Took {
 }
 
 // A line that can't be read leaves the hasher.
-pub fn unread(h: Hasher) -> Took
+pub(crate) fn unread(h: Hasher) -> Took
     ensures { λ r. ⌜ r ≡ tookOf false h ⌝ }
 {
     Took {
@@ -50,7 +50,7 @@ fn flags_of(bits: usize) -> Flags
 }
 
 // A fresh hasher.
-pub fn fresh(h: Hasher, line: &[u8]) -> Took
+pub(crate) fn fresh(h: Hasher, line: &[u8]) -> Took
     ensures { λ r. ⌜ r ≡ freshFrom h (smallAt (now (line .entry)) 1) ⌝ }
 {
     let bits = small_at(line, 1);
@@ -80,7 +80,7 @@ fn stands(u: Updated, line: &[u8]) -> bool {
     is_mark(line, 5, h.mark)
 }
 
-pub fn updated(h: Hasher, line: &[u8], table: &[u32]) -> Took {
+pub(crate) fn updated(h: Hasher, line: &[u8], table: &[u32]) -> Took {
     let piece = run_at(line, 1);
     let lent = words_at(line, 2);
     if !piece.good {
@@ -130,7 +130,7 @@ fn said(o: Outcome, digest: &[u8; 20], line: &[u8]) -> bool {
     is_bytes(line, 3, digest)
 }
 
-pub fn finished(h: Hasher, line: &[u8], table: &[u32]) -> Took {
+pub(crate) fn finished(h: Hasher, line: &[u8], table: &[u32]) -> Took {
     let lent = words_at(line, 1);
     if !lent.good {
         return unread(h);
@@ -146,7 +146,7 @@ pub fn finished(h: Hasher, line: &[u8], table: &[u32]) -> Took {
     }
 }
 
-pub fn closed(h: Hasher, line: &[u8], table: &[u32]) -> Took {
+pub(crate) fn closed(h: Hasher, line: &[u8], table: &[u32]) -> Took {
     let lent = words_at(line, 1);
     let mut out = [0u8; 20];
     if !lent.good {
@@ -162,7 +162,7 @@ pub fn closed(h: Hasher, line: &[u8], table: &[u32]) -> Took {
     }
 }
 
-pub fn was_reset(h: Hasher) -> Took
+pub(crate) fn was_reset(h: Hasher) -> Took
     ensures { λ r. ⌜ r .hasher ≡ resetOf h .hasher ⌝ }
 {
     let u = reset(h);

@@ -5,7 +5,7 @@ ghost use Rattle.verdict.specs.Verdict.{verdictOf};
 pub enum Verdict {
     // No block was marked.
     Ok,
-    // A block was marked, and the digest is not the one that collides.
+    // A block was marked, and each marked one was compressed twice more.
     Mitigated,
     // A block was marked, and the digest is the plain one.
     Collision,

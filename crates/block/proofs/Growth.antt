@@ -10,7 +10,7 @@ use Rattle.word.specs.Choice.{pick}
 use Rattle.word.specs.Rule.{ruleAt}
 use Rattle.word.specs.Lists.{listOf}
 use Rattle.block.specs.Schedule.{scheduled}
-use Rattle.block.proofs.Fill.{list-length, list-at}
+use Rattle.word.proofs.Fill.{list-length, list-at}
 
 -- the rule looks only at the words before place t
 pub rule-agree : (v w : List ℕ) (t : ℕ) → 16 ≤ t → ((i : ℕ) → i < t → getD v i 0 ≡ getD w i 0) → ruleAt v t ≡ ruleAt w t

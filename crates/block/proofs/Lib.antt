@@ -1,4 +1,3 @@
-pub mod Fill
 pub mod Growth
 pub mod Stages
 pub mod Back

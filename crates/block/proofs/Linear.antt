@@ -14,9 +14,10 @@ use Rattle.word.specs.Lists.{listOf, xorWords, AllWords}
 use Rattle.word.specs.Rule.{ruleAt}
 use Rattle.word.proofs.Tests.{of-either}
 use Rattle.word.proofs.Xor.{rule-lt, rule-xor}
-use Rattle.block.specs.Schedule.{wordAt, wordsOf, scheduled, scheduleOf}
+use Rattle.block.specs.Schedule.{wordsOf, scheduled, scheduleOf}
+use Rattle.octets.specs.Octets.{be32At}
 use Rattle.block.specs.Sibling.{siblingSchedule}
-use Rattle.block.proofs.Fill.{list-at}
+use Rattle.word.proofs.Fill.{list-at}
 use Rattle.block.proofs.Growth.{word, schedule-list, schedule-at, word-given, word-ruled, schedule-ruled}
 
 -- one word more
@@ -34,7 +35,7 @@ list-words f (suc n) h = words-snoc (listOf f n) (f n) (list-words f n h) (h n)
 -- the sixteen words of a block of bytes
 pub words-words : (block : List ℕ) → ((i : ℕ) → getD block i 0 < 256) → AllWords (wordsOf block)
 words-words block h =
-    list-words (wordAt block) 16 (λ i. omega (arith, h (4 * i), h (4 * i + 1), h (4 * i + 2), h (4 * i + 3)))
+    list-words (be32At block) 16 (λ i. omega (arith, h (4 * i), h (4 * i + 1), h (4 * i + 2), h (4 * i + 3)))
 
 -- every element of a schedule of words
 schedule-words : (m : List ℕ) → AllWords m → (n : ℕ) → AllWords (scheduled m n)

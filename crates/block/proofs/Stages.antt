@@ -13,7 +13,7 @@ use Rattle.step.specs.declared.Regs.{Regs}
 use Rattle.step.proofs.Runs.{steps-last}
 use Rattle.block.specs.Schedule.{scheduled, scheduleOf}
 use Rattle.block.specs.Stage.{Stage}
-use Rattle.block.proofs.Fill.{Filled, fill-more}
+use Rattle.word.proofs.Fill.{Filled, fill-more}
 use Rattle.block.proofs.Growth.{rule-agree, word, schedule-list, schedule-at, word-given, word-ruled}
 
 -- no step is taken

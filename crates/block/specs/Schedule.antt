@@ -1,21 +1,16 @@
 -- The schedule of a block: FIPS 180-4, sections 5.2.1 and 6.1.2, step 1.
 use mathlib.Core.List.{List, [], _∷_, _++_}
-use Prim.Native.Nat.{ℕ, zero, suc, _+_, _*_}
+use Prim.Native.Nat.{ℕ, zero, suc}
 use lib.Dec.{ltb}
 use lib.ListN.{length, getD}
 use Rattle.word.specs.Choice.{pick}
-use Rattle.word.specs.Word.{be32}
 use Rattle.word.specs.Rule.{ruleAt}
 use Rattle.word.specs.Lists.{listOf}
-
--- word i of a block of 64 bytes
-abbrev pub wordAt : List ℕ → ℕ → ℕ
-wordAt block i =
-    be32 (getD block (4 * i) 0) (getD block (4 * i + 1) 0) (getD block (4 * i + 2) 0) (getD block (4 * i + 3) 0)
+use Rattle.octets.specs.Octets.{be32At}
 
 -- the sixteen words of a block of 64 bytes
 abbrev pub wordsOf : List ℕ → List ℕ
-wordsOf block = listOf (wordAt block) 16
+wordsOf block = listOf (be32At block) 16
 
 -- one word more: one of the sixteen words m while there are any, then what the rule gives
 abbrev pub extended : List ℕ → List ℕ → List ℕ

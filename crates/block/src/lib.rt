@@ -3,16 +3,17 @@ ghost use mathlib.Core.Path.{_≡_};
 ghost use mathlib.Core.List.{List};
 ghost use Prim.Native.Nat.{ℕ, _<_, _≤_};
 ghost use lib.ListN.{length};
-ghost use Rattle.block.specs.Schedule.{wordAt, wordsOf, scheduleOf};
+ghost use Rattle.octets.specs.Octets.{be32At};
+ghost use Rattle.block.specs.Schedule.{wordsOf, scheduleOf};
 ghost use Rattle.block.specs.Compress.{overSchedule, compressOf, statesOf};
 ghost use Rattle.block.specs.Sibling.{siblingSchedule, recompressed};
 ghost use Rattle.block.specs.Stage.{Stage, Onward};
+use octets::be_word;
 use step::Regs;
 use step::add_regs;
 use step::step;
 use step::steps;
 use step::undos;
-use word::be_word;
 use word::mix;
 
 // What one compression leaves for detection, all in the order of FIPS 180-4.
@@ -34,7 +35,7 @@ pub struct Ends {
 // Word i of a block.
 fn word_at(block: &[u8], i: usize) -> u32
     requires { ⌜ (length (now block) ≡ 64) × (i < 16) ⌝ }
-    ensures { λ r. ⌜ r ≡ wordAt (now (block .entry)) i ⌝ }
+    ensures { λ r. ⌜ r ≡ be32At (now (block .entry)) i ⌝ }
 {
     let at = 4 * i;
     be_word(block[at], block[at + 1], block[at + 2], block[at + 3])

@@ -34,7 +34,7 @@ use Rattle.verdict.specs.Verdict.{digestSize}
 use Rattle.finish.specs.Finish.{tailBlocks, finishRefusal, outcomeRefusal, outcomeNumber, outcomePlace, finished, closed, writtenOut, oneShotRefusal, digested}
 use Rattle.finish.specs.declared.Outcome.{Outcome}
 use Rattle.finish.specs.declared.Outcome.the-variants.{Done, Refused}
-use Rattle.lent.specs.InPlace.{InPlace}
+use Rattle.in_place.specs.InPlace.{InPlace}
 use Rattle.claims.specs.Refusals.{WellFormed, OfTable, Miscounted, WellCounted, blocksOf, oneOf}
 use Rattle.claims.proofs.Formed.{well-formed}
 

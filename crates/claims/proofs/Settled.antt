@@ -14,7 +14,7 @@ use denote.Triple.Entry.{Args, Res}
 use denote.Triple.Clauses.{AtExit}
 use Rattle.refusal.specs.declared.Refusal.{Refusal}
 use Rattle.hasher.specs.declared.Hasher.{Hasher}
-use Rattle.lent.specs.InPlace.{InPlace}
+use Rattle.in_place.specs.InPlace.{InPlace}
 use Rattle.refusal.proofs.number.Kinds as number-kinds
 use Rattle.refusal.proofs.number.Reads as number-contract
 use Rattle.refusal.proofs.place.Kinds as place-kinds
@@ -45,19 +45,19 @@ use Rattle.stream.proofs.Flags.reduced_round_collision.Kinds as reduced-kinds
 use Rattle.stream.proofs.Flags.reduced_round_collision.Reads as reduced-contract
 use Rattle.hasher.proofs.Hasher.new.Kinds as new-kinds
 use Rattle.hasher.proofs.Hasher.new.Reads as new-contract
-use Rattle.lent.proofs.through.Kinds as through-kinds
-use Rattle.lent.proofs.through.Reads as through-contract
+use Rattle.in_place.proofs.through.Kinds as through-kinds
+use Rattle.in_place.proofs.through.Reads as through-contract
 use Rattle.sheet.proofs.lookup.Kinds as lookup-kinds
 use Rattle.sheet.proofs.lookup.Reads as lookup-contract
 use Rattle.sheet.proofs.lookup_refusal.Kinds as lookup-refusal-kinds
 use Rattle.sheet.proofs.lookup_refusal.Reads as lookup-refusal-contract
 use Rattle.sheet.proofs.compare.Kinds as compare-kinds
 use Rattle.sheet.proofs.compare.Reads as compare-contract
-use Rattle.file.proofs.file_words.Kinds as words-kinds
-use Rattle.file.proofs.file_words.Reads as words-contract
-use Rattle.file.proofs.file_fault.Kinds as fault-kinds
-use Rattle.file.proofs.file_fault.Reads as fault-contract
-use Rattle.lent.proofs.update_in_place as in-place
+use Rattle.table_file.proofs.file_words.Kinds as words-kinds
+use Rattle.table_file.proofs.file_words.Reads as words-contract
+use Rattle.table_file.proofs.file_fault.Kinds as fault-kinds
+use Rattle.table_file.proofs.file_fault.Reads as fault-contract
+use Rattle.in_place.proofs.update_in_place as in-place
 use Rattle.claims.specs.Settled.{Two, Settled}
 
 -- what is equal to one meaning is equal

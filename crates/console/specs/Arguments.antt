@@ -5,7 +5,7 @@ use Prim.Native.Nat.{ℕ, suc}
 use lib.Dec.{ltb}
 use lib.ListN.{take, drop}
 use Rattle.word.specs.Choice.{pick}
-use Rattle.sheet.specs.Sheet.{sameBytes}
+use Rattle.octets.specs.Octets.{sameBytes}
 use Rattle.stream.specs.declared.Flags.{Flags}
 use Rattle.stream.specs.declared.Masks.the-variants.{All}
 use Rattle.console.specs.declared.Word.{Word}

@@ -6,15 +6,15 @@ use detect::Found;
 use detect::Mode;
 use detect::OneBlock;
 use detect::one_block;
-use file::file_fault;
-use file::file_words;
+use printing::say;
+use printing::say_decimal;
+use printing::say_refusal;
+use printing::say_words;
 use refusal::is_nothing;
 use refusal::number;
 use refusal::place;
-use show::say;
-use show::say_decimal;
-use show::say_refusal;
-use show::say_words;
+use table_file::file_fault;
+use table_file::file_words;
 
 fn say_found(f: Found) {
     if f.mark {

@@ -3,10 +3,10 @@
 use finish::finish;
 use hasher::Hasher;
 use hasher::update;
+use printing::say;
+use printing::say_answer;
+use printing::say_refusal;
 use refusal::is_nothing;
-use show::say;
-use show::say_answer;
-use show::say_refusal;
 use stream::Flags;
 
 fn main() {

@@ -5,7 +5,7 @@ use crate::cut::Cut;
 use crate::line::at_once;
 use crate::line::in_pieces;
 use crate::line::modes;
-use show::say;
+use printing::say;
 use stream::Flags;
 
 fn same_size(n: usize) -> Cut {

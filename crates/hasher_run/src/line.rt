@@ -5,9 +5,9 @@ use crate::cut::digested;
 use crate::cut::finished;
 use crate::cut::taken;
 use hasher::Hasher;
-use show::say;
-use show::say_answer;
-use show::say_flags;
+use printing::say;
+use printing::say_answer;
+use printing::say_flags;
 use stream::Flags;
 
 // One of the 16 settings of the flags.

@@ -9,9 +9,9 @@ mod line;
 mod marked;
 mod nist;
 
-use file::file_words;
-use show::say;
+use printing::say;
 use stream::Flags;
+use table_file::file_words;
 
 // Fills the buffer from a file, or says that it could not.
 fn load(name: &[u8], buf: &mut [u8]) {

@@ -7,8 +7,8 @@ use crate::line::modes;
 use crate::line::say_finish;
 use hasher::Hasher;
 use hasher::reset;
-use show::say;
-use show::say_hasher;
+use printing::say;
+use printing::say_hasher;
 use stream::Flags;
 
 // The control record marks every block that selects it.

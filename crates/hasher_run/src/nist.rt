@@ -7,8 +7,8 @@ use crate::cut::finished;
 use crate::cut::taken;
 use hasher::Hasher;
 use hasher::reset;
-use show::say;
-use show::say_decimal;
+use printing::say;
+use printing::say_decimal;
 use stream::Flags;
 
 // In the file, one after the other: a byte with the message's length, the message, its digest.

@@ -11,8 +11,8 @@ use Rattle.refusal.specs.declared.Refusal.{Refusal}
 use Rattle.refusal.specs.declared.Refusal.the-variants.{TableLength}
 use Rattle.stream.specs.declared.Flags.{Flags}
 use Rattle.hasher.specs.Hasher.{freshOf}
-use Rattle.file.specs.File.{mostWords, mostFileBytes, fileFault}
-use Rattle.file.proofs.Short.{short}
+use Rattle.table_file.specs.File.{mostWords, mostFileBytes, fileFault}
+use Rattle.table_file.proofs.Short.{short}
 use Rattle.console.specs.Arguments.{flagsOf}
 use Rattle.console.specs.declared.Saying.the-variants.{Unread}
 use Rattle.purserumble.specs.Reads.{Read, Hears}

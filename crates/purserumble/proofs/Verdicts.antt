@@ -12,7 +12,7 @@ use Rattle.refusal.proofs.Chains.{nothing-is}
 use Rattle.verdict.specs.declared.Verdict.{Verdict}
 use Rattle.stream.specs.declared.Flags.{Flags}
 use Rattle.hasher.specs.Hasher.{freshOf}
-use Rattle.file.specs.File.{mostFileBytes, tableOf, fileFault}
+use Rattle.table_file.specs.File.{mostFileBytes, tableOf, fileFault}
 use Rattle.finish.specs.Finish.{finished}
 use Rattle.finish.specs.declared.Outcome.{Outcome}
 use Rattle.finish.specs.declared.Outcome.the-variants.{Done, Refused}

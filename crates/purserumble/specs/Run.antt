@@ -8,7 +8,7 @@ use Rattle.word.specs.Choice.{pick}
 use Rattle.refusal.specs.Refusal.{isNothing}
 use Rattle.stream.specs.declared.Flags.{Flags}
 use Rattle.hasher.specs.Hasher.{freshOf}
-use Rattle.file.specs.File.{mostFileBytes, tableOf, fileFault}
+use Rattle.table_file.specs.File.{mostFileBytes, tableOf, fileFault}
 use Rattle.verdict.specs.Verdict.{digestSize}
 use Rattle.finish.specs.Finish.{finished}
 use Rattle.finish.specs.declared.Finished.{Finished}

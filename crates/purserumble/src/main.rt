@@ -11,9 +11,6 @@ use console::file_name;
 use console::flags_of;
 use console::line_of;
 use console::word_of;
-use file::MOST_WORDS;
-use file::file_fault;
-use file::file_words;
 use finish::Finished;
 use finish::Outcome;
 use finish::finish;
@@ -25,6 +22,9 @@ use libc::STDOUT_FILENO;
 use refusal::Refusal;
 use refusal::is_nothing;
 use stream::Flags;
+use table_file::MOST_WORDS;
+use table_file::file_fault;
+use table_file::file_words;
 
 // Bytes in `table=`.
 const SIGN: usize = 6;

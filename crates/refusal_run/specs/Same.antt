@@ -3,7 +3,7 @@ use mathlib.Core.Bool.{Bool, not, _&&_}
 use lib.Dec.{eqb}
 use Rattle.word.specs.Choice.{pick}
 use Rattle.step.specs.Step.{regsOf, sameRegs}
-use Rattle.sheet.specs.Sheet.{sameBytes}
+use Rattle.octets.specs.Octets.{sameBytes}
 use Rattle.stream.specs.Flags.{isLent}
 use Rattle.stream.specs.declared.Flags.{Flags}
 use Rattle.hasher.specs.declared.Hasher.{Hasher}

@@ -8,14 +8,14 @@ use hasher::Hasher;
 use hasher::Updated;
 use hasher::reset;
 use hasher::update;
-use lent::through;
+use in_place::through;
+use printing::say;
+use printing::say_answer;
+use printing::say_hasher;
+use printing::say_hex;
+use printing::say_outcome;
+use printing::say_refusal;
 use refusal::is_nothing;
-use show::say;
-use show::say_answer;
-use show::say_hasher;
-use show::say_hex;
-use show::say_outcome;
-use show::say_refusal;
 
 pub enum Entry {
     Update,

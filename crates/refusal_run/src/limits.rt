@@ -9,8 +9,8 @@ use crate::given::front;
 use crate::given::hasher_of;
 use crate::given::middle;
 use hasher::Hasher;
-use show::say;
-use show::say_hasher;
+use printing::say;
+use printing::say_hasher;
 use stream::Flags;
 
 // One byte short of the longest message.

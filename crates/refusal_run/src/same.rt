@@ -1,11 +1,11 @@
 // Whether two hashers are the same in every field.
 ghost use mathlib.Core.Path.{_≡_};
-ghost use Rattle.sheet.specs.Sheet.{sameBytes};
+ghost use Rattle.octets.specs.Octets.{sameBytes};
 ghost use Rattle.step.specs.Step.{regsOf, sameRegs};
 ghost use Rattle.stream.specs.Flags.{isLent};
 ghost use Rattle.refusal_run.specs.Same.{sameBit, sameFlags, sameCounts, sameHasher};
 use hasher::Hasher;
-use sheet::same_bytes;
+use octets::same_bytes;
 use step::regs_of;
 use step::same_regs;
 use stream::Flags;

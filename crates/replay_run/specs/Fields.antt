@@ -6,7 +6,7 @@ use lib.Dec.{eqb}
 use lib.ListN.{take, replicate}
 use Rattle.word.specs.Choice.{pick}
 use Rattle.step.specs.Step.{regsOf, sameRegs}
-use Rattle.file.specs.File.{mostWords, fileWords}
+use Rattle.table_file.specs.File.{mostWords, fileWords}
 use Rattle.replay_run.specs.Lines.{fieldOf}
 use Rattle.replay_run.specs.Hex.{runOf, smallOf}
 use Rattle.replay_run.specs.declared.hex.Run.{Run}

@@ -6,7 +6,7 @@ use lib.Dec.{eqb, leb, ltb}
 use lib.ListN.{length, getD, replicate}
 use Rattle.word.specs.Choice.{pick}
 use Rattle.word.specs.Lists.{listOf}
-use Rattle.file.specs.File.{mostFileBytes}
+use Rattle.table_file.specs.File.{mostFileBytes}
 use Rattle.replay_run.specs.declared.hex.Run.{Run}
 
 -- the value of a digit in ASCII, `0` to `9` and `a` to `f`; 16 of any other byte

@@ -5,8 +5,8 @@ ghost use lib.ListN.{length, replicate};
 ghost use Rattle.word.specs.Choice.{pick};
 ghost use Rattle.replay_run.specs.Counts.{lastPlace, placeOf, moreAt};
 use crate::kind::Kind;
-use show::say;
-use show::say_decimal;
+use printing::say;
+use printing::say_decimal;
 
 // A count for each kind. What differs counts as what can't be read, which has the last place.
 const KINDS: usize = 9;

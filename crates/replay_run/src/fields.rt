@@ -5,17 +5,17 @@ ghost use lib.Dec.{eqb};
 ghost use lib.ListN.{getD, take};
 ghost use Rattle.word.specs.Choice.{pick};
 ghost use Rattle.step.specs.Step.{regsOf, fiveOf};
-ghost use Rattle.file.specs.File.{mostWords, fileWords};
+ghost use Rattle.table_file.specs.File.{mostWords, fileWords};
 ghost use Rattle.replay_run.specs.Fields.{runAt, bytesAt, noWords, wordsAt, smallAt, isFive};
 use crate::hex::RUN_BYTES;
 use crate::hex::Run;
 use crate::hex::run_of;
 use crate::hex::small_of;
 use crate::line::field;
-use file::MOST_WORDS;
-use file::file_words;
 use step::regs_of;
 use step::same_regs;
+use table_file::MOST_WORDS;
+use table_file::file_words;
 
 // Words read from a field. What can't be read has none, and is not good.
 pub struct Words {

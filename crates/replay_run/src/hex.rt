@@ -3,9 +3,9 @@ ghost use mathlib.Core.Path.{_≡_};
 ghost use Prim.Native.Nat.{_<_};
 ghost use lib.ListN.{getD};
 ghost use Rattle.word.specs.Lists.{listOf};
-ghost use Rattle.file.specs.File.{mostFileBytes};
+ghost use Rattle.table_file.specs.File.{mostFileBytes};
 ghost use Rattle.replay_run.specs.Hex.{digitOf, allDigits, pairOf, byteOf, isRun, isDash, runOf, smallOf};
-use file::MOST_WORDS;
+use table_file::MOST_WORDS;
 
 // Bytes in the longest run, a table of 32 records.
 pub const RUN_BYTES: usize = 4 * MOST_WORDS;

@@ -13,8 +13,8 @@ mod replay;
 mod session;
 
 use counts::say_counts;
+use printing::say;
 use replay::replay;
-use show::say;
 
 // A list has fewer bytes than this.
 const MOST_TEXT: usize = 262144;

@@ -9,8 +9,9 @@ use native.Mathlib.Numerals.{add-one}
 use native.Mathlib.Omega.{arith}
 use lib.ListN.{take, drop}
 use Rattle.word.specs.Choice.{pick}
-use Rattle.sheet.specs.Sheet.{barcodeSize, recordSize, sameBytes, barcodeAt, firstFrom, recordFor, recordsOn}
-use Rattle.sheet.proofs.Bytes.{same-exactly}
+use Rattle.octets.specs.Octets.{sameBytes}
+use Rattle.sheet.specs.Sheet.{barcodeSize, recordSize, barcodeAt, firstFrom, recordFor, recordsOn}
+use Rattle.octets.proofs.Same.{same-exactly}
 
 -- record k's barcode as the code cuts it out
 abbrev cut : List ℕ → ℕ → List ℕ

@@ -1,4 +1,3 @@
-pub mod Bytes
 pub mod First
 pub mod Parts
 pub mod Answers

@@ -6,7 +6,8 @@ use lib.ListN.{length, replicate}
 use Rattle.word.specs.Choice.{pick}
 use Rattle.refusal.specs.Refusal.{numberOf, isNothing}
 use Rattle.verdict.specs.declared.Verdict.{Verdict}
-use Rattle.sheet.specs.Sheet.{sameBytes, onSheet, lookupRefusal, partOf}
+use Rattle.octets.specs.Octets.{sameBytes}
+use Rattle.sheet.specs.Sheet.{onSheet, lookupRefusal, partOf}
 use Rattle.sheet.specs.declared.Comparison.{Comparison}
 use Rattle.sheet.specs.declared.Comparison.the-variants.{Match, Differs, Absent}
 use Rattle.sheet.specs.declared.Compared.{Compared}

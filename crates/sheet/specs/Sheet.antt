@@ -1,11 +1,12 @@
 -- A sheet of barcodes: records of a barcode and a digest, with no header. 01, "The barcode sheet and the program".
-use mathlib.Core.Bool.{Bool, true, false, not, _&&_}
-use mathlib.Core.List.{List, [], _∷_}
+use mathlib.Core.Bool.{Bool, not, _&&_}
+use mathlib.Core.List.{List}
 use Prim.Native.Nat.{ℕ, zero, suc, _+_, _*_, _/_, _%_}
 use lib.Dec.{eqb, ltb}
 use lib.ListN.{length, take, drop}
 use denote.Ref.{RefT, ptr}
 use Rattle.word.specs.Choice.{pick}
+use Rattle.octets.specs.Octets.{sameBytes}
 use Rattle.verdict.specs.Verdict.{digestSize}
 use Rattle.refusal.specs.Refusal.{isNothing}
 use Rattle.refusal.specs.declared.Refusal.{Refusal}
@@ -30,13 +31,6 @@ barcodeAt sheet k = take barcodeSize (drop (recordSize * k) sheet)
 -- record k's digest
 abbrev pub digestAt : List ℕ → ℕ → List ℕ
 digestAt sheet k = take digestSize (drop (recordSize * k + barcodeSize) sheet)
-
--- whether two lists have the same bytes
-unfoldable pub sameBytes : List ℕ → List ℕ → Bool
-sameBytes [] [] = true
-sameBytes [] (y ∷ ys) = false
-sameBytes (x ∷ xs) [] = false
-sameBytes (x ∷ xs) (y ∷ ys) = eqb x y && sameBytes xs ys
 
 -- the first of the n records from place k on that has the barcode, else the place past them
 unfoldable pub firstFrom : List ℕ → List ℕ → ℕ → ℕ → ℕ

@@ -2,8 +2,9 @@
 // and then a digest, and a sheet has no header.
 ghost use mathlib.Core.Path.{_≡_};
 ghost use denote.Ref.{ptr};
-ghost use Rattle.sheet.specs.Sheet.{sameBytes, recordFor, lookupRefusal, partFrom, partOf, placeIn};
+ghost use Rattle.sheet.specs.Sheet.{recordFor, lookupRefusal, partFrom, partOf, placeIn};
 ghost use Rattle.sheet.specs.Compare.{wordBytes, comparedOf};
+use octets::same_bytes;
 use refusal::Refusal;
 use refusal::is_nothing;
 use verdict::Verdict;
@@ -40,21 +41,6 @@ pub fn comparison_word(answer: Comparison) -> [u8; 7]
         Comparison::Differs => *b"differs",
         Comparison::Absent => *b"absent\0",
     }
-}
-
-// Whether x and y have the same bytes.
-pub fn same_bytes(x: &[u8], y: &[u8]) -> bool
-    ensures { λ r. ⌜ r ≡ sameBytes (now (x .entry)) (now (y .entry)) ⌝ }
-{
-    if x.len() != y.len() {
-        return false;
-    }
-    for i in 0..x.len() {
-        if x[i] != y[i] {
-            return false;
-        }
-    }
-    true
 }
 
 // The place of the first record with the barcode, or the number of records where none has it.

@@ -5,3 +5,4 @@ pub mod Sums
 pub mod Xor
 pub mod Tests
 pub mod Words
+pub mod Fill

@@ -31,7 +31,3 @@ Parity x y z = bitXor (bitXor x y) z
 -- majority: the bits that at least two of the three have
 unfoldable pub Maj : ℕ → ℕ → ℕ → ℕ
 Maj x y z = bitXor (bitXor (bitAnd x y) (bitAnd x z)) (bitAnd y z)
-
--- four bytes as a word, the high byte first
-abbrev pub be32 : ℕ → ℕ → ℕ → ℕ → ℕ
-be32 p q r s = p * 2 ^ 24 + q * 2 ^ 16 + r * 2 ^ 8 + s

@@ -1,7 +1,7 @@
-// Words of 32 bits: rotation, wrapping sums and differences, the round functions and big-endian words.
+// Words of 32 bits: rotation, wrapping sums and differences, the round functions and the rule of a schedule.
 ghost use mathlib.Core.Path.{_≡_};
 ghost use Prim.Native.Nat.{_<_};
-ghost use Rattle.word.specs.Word.{rotl, _⊞_, _⊟_, Ch, Parity, Maj, be32};
+ghost use Rattle.word.specs.Word.{rotl, _⊞_, _⊟_, Ch, Parity, Maj};
 ghost use Rattle.word.specs.Rule.{rule};
 
 // x rotated left by n places. The two shifts and their sum of bits are one machine instruction.
@@ -61,11 +61,4 @@ pub fn mix(w3: u32, w8: u32, w14: u32, w16: u32) -> u32
     ensures { λ r. ⌜ r ≡ rule w3 w8 w14 w16 ⌝ }
 {
     rotate_left(w3 ^ w8 ^ w14 ^ w16, 1)
-}
-
-// Four bytes as a word, the high byte first.
-pub fn be_word(p: u8, q: u8, r: u8, s: u8) -> u32
-    ensures { λ x. ⌜ x ≡ be32 p q r s ⌝ }
-{
-    ((p as u32) << 24) + ((q as u32) << 16) + ((r as u32) << 8) + (s as u32)
 }

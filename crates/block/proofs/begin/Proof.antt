@@ -5,7 +5,7 @@ use borrow.Author.Needs.{needs}
 use lib.ListN.{length, length-set}
 use Rattle.block.specs.Schedule.{wordsOf}
 use Rattle.block.specs.Stage.{Onward}
-use Rattle.block.proofs.Fill.{list-at}
+use Rattle.word.proofs.Fill.{list-at}
 use Rattle.block.proofs.Stages.{stage-load}
 use Rattle.block.proofs.begin.Statement.{statement}
 use Rattle.block.proofs.begin.Tie as tie

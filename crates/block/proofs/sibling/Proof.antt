@@ -4,7 +4,7 @@ use Prim.Native.Nat.{_-_}
 use lib.Bits.{bitXor}
 use lib.ListN.{getD}
 use borrow.Author.Needs.{needs}
-use Rattle.block.proofs.Fill.{Filled, fill-none, fill-more, fill-all}
+use Rattle.word.proofs.Fill.{Filled, fill-none, fill-more, fill-all}
 use Rattle.block.proofs.sibling.Statement.{statement}
 use Rattle.block.proofs.sibling.Tie as tie
 

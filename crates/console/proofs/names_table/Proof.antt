@@ -2,7 +2,7 @@
 use mathlib.Core.Path.{sym}
 use native.Mathlib.Omega.{arith}
 use lib.ListN.{take, length-take}
-use Rattle.sheet.proofs.Bytes.{other-lengths}
+use Rattle.octets.proofs.Same.{other-lengths}
 use Rattle.console.specs.Arguments.{tableSign}
 use borrow.Author.Needs.{needs}
 use Rattle.console.proofs.names_table.Statement.{statement}

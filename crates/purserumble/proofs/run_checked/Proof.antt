@@ -7,9 +7,9 @@ use native.Mathlib.Omega.{arith}
 use borrow.Author.Tests.{not-true, not-false}
 use lib.ListN.{length, take}
 use Rattle.refusal.specs.Refusal.{isNothing}
-use Rattle.block.specs.Schedule.{wordAt}
-use Rattle.block.proofs.Fill.{list-length, list-take}
-use Rattle.file.specs.File.{mostWords, tableOf, fileFault}
+use Rattle.octets.specs.Octets.{be32At}
+use Rattle.word.proofs.Fill.{list-length, list-take}
+use Rattle.table_file.specs.File.{mostWords, tableOf, fileFault}
 use Rattle.purserumble.specs.Run.{answerTo, answerFor}
 use Rattle.purserumble.proofs.Answered.{file-short}
 use borrow.Author.Needs.{needs}
@@ -46,12 +46,12 @@ file-words-requires c κs = search needs
 array-share-prefix-words : tie.Need-array-share-prefix-words
 array-share-prefix-words c =
     let a = c .before .before .before .before .before .args .bytes .now in
-    rw (c .file-words .ensures) (omega (arith, list-length (wordAt a) mostWords, fits (c .before)))
+    rw (c .file-words .ensures) (omega (arith, list-length (be32At a) mostWords, fits (c .before)))
 
 slice-aggregate-run : tie.Need-slice-aggregate-run
 slice-aggregate-run c =
     let a = c .before .before .before .before .before .before .args .bytes .now in
-    rw (c .before .file-words .ensures, list-take (wordAt a) mostWords (length a / 4) (fits (c .before .before))) (sym (list-length (wordAt a) (length a / 4)))
+    rw (c .before .file-words .ensures, list-take (be32At a) mostWords (length a / 4) (fits (c .before .before))) (sym (list-length (be32At a) (length a / 4)))
 
 run-requires : tie.Need-run-requires
 run-requires c κs = search needs
@@ -63,7 +63,7 @@ returns-2 c =
     let a = i .before .before .before .before .args in
     let xs = a .bytes .now in
     let t : take (length xs / 4) (c .before .before .file-words .result) ≡ tableOf xs =
-    rw (c .before .before .file-words .ensures) (list-take (wordAt xs) mostWords (length xs / 4) (fits i))
+    rw (c .before .before .file-words .ensures) (list-take (be32At xs) mostWords (length xs / 4) (fits i))
     in
     let r = c .run .ensures in
     record {

@@ -2,8 +2,8 @@
 use Prim.Native.Nat.{ℕ, _-_}
 use lib.ListN.{length-replicate}
 use borrow.Author.Needs.{needs}
-use Rattle.block.proofs.Fill.{Filled, fill-none, fill-more, fill-all}
-use Rattle.file.specs.File.{mostFileBytes}
+use Rattle.word.proofs.Fill.{Filled, fill-none, fill-more, fill-all}
+use Rattle.table_file.specs.File.{mostFileBytes}
 use Rattle.replay_run.specs.Hex.{byteOf}
 use Rattle.replay_run.proofs.hex.bytes_of.Statement.{statement}
 use Rattle.replay_run.proofs.hex.bytes_of.Tie as tie

@@ -2,7 +2,7 @@
 use Prim.Native.Nat.{_*_, _%_}
 use borrow.Author.Tests.{eq-eqb, ne-eqb, lt-ltb, le-ltb}
 use lib.ListN.{length}
-use Rattle.file.specs.File.{mostFileBytes}
+use Rattle.table_file.specs.File.{mostFileBytes}
 use Rattle.replay_run.specs.Hex.{isRun}
 use borrow.Author.Needs.{needs}
 use Rattle.replay_run.proofs.hex.is_run.Statement.{statement}

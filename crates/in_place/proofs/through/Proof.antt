@@ -54,10 +54,10 @@ use Rattle.refusal.proofs.Refusal as N
 use Rattle.refusal.proofs.Refusal.Laws as N′
 use Rattle.in_place.proofs.update_in_place as g
 use Rattle.in_place.proofs.update_in_place.Symbol as g-def
-use Rattle.in_place.proofs.update_in_place.Symbol.{name as #lent·update-in-place}
+use Rattle.in_place.proofs.update_in_place.Symbol.{name as #in-place·update-in-place}
 use Rattle.in_place.proofs.update_in_place.Met as g-thm
 use Rattle.in_place.proofs.Passed.{mach, machU, machN, v, Slices, slices-twice}
-use Rattle.in_place.proofs.through.Key.{name as #lent·through}
+use Rattle.in_place.proofs.through.Key.{name as #in-place·through}
 use Rattle.in_place.proofs.through as f
 use Rattle.in_place.proofs.through.Statement as stated
 use Rattle.in_place.proofs.through.Code as code
@@ -137,7 +137,7 @@ module _ {M : Type 1} (𝓤 : URA M) (H : Heap 𝓤) (A : Atoms 𝓤) (W : Given
       says ! (λ i. put-together (e .1 i) (e .0 i)) $ frame ! $ owned ! T.the-row (Is T.the-row) (LL.makes T.the-type T′.the-plain 𝓤 H A) h _ was $ fjoin ! $ frame ! $
       owned ! U.the-row (Is U.the-row) (LL.makes U.the-type U′.the-plain 𝓤 H A) (put-together n w) _ is $ done !
 
-  module _ (C : Calls 𝓤 H) (Λ : Loops 𝓤 H) (fm : FmC 𝓤 H (W .laws) C) (known : Triple 𝓤 (C #lent·update-in-place) (Cited 𝓤 H A at-mem run)) where
+  module _ (C : Calls 𝓤 H) (Λ : Loops 𝓤 H) (fm : FmC 𝓤 H (W .laws) C) (known : Triple 𝓤 (C #in-place·update-in-place) (Cited 𝓤 H A at-mem run)) where
     walk : Is T.the-row h (mach h ∷ []) → Is (ShrSlice (named 0) κ₁ u8) s₁ (v s₁ ∷ []) → Is (ShrSlice (named 1) κ₂ u32) s₂ (v s₂ ∷ []) → Is (ShrSlice (named 2) κ₃ u32) s₃ (v s₃ ∷ [])
         → ent 𝓤 (onEntry 𝓤 H A f.signature (κ₁, (κ₂, (κ₃, tt))) (q₁, (q₂, (q₃, tt))) x (vals (mach h))) (WpFn 𝓤 H C Λ code.function (mach h ∷ v s₁ ∷ v s₂ ∷ v s₃ ∷ []) Post)
     walk was p₁ p₂ p₃ =
@@ -180,7 +180,7 @@ module _ {M : Type 1} (𝓤 : URA M) (H : Heap 𝓤) (A : Atoms 𝓤) (W : Given
         by ! (exits n (ls .0) e was (together-is n (ls .0) is gis))))))))))))))))))))
 
 module _ {M : Type 1} (𝓤 : URA M) (H : Heap 𝓤) (A : Atoms 𝓤) (W : Given 𝓤 H A) (at-mem : Memory → SProp 𝓤) (run : Routine → Fun 𝓤) where
-  through-walks : (C : Calls 𝓤 H) (Λ : Loops 𝓤 H) → FmC 𝓤 H (W .laws) C → Triple 𝓤 (C #lent·update-in-place) (Cited 𝓤 H A at-mem run) → Walks 𝓤 H A f.ended stayed (WpFn 𝓤 H C Λ code.function) (f.clauses 𝓤 H A at-mem run)
+  through-walks : (C : Calls 𝓤 H) (Λ : Loops 𝓤 H) → FmC 𝓤 H (W .laws) C → Triple 𝓤 (C #in-place·update-in-place) (Cited 𝓤 H A at-mem run) → Walks 𝓤 H A f.ended stayed (WpFn 𝓤 H C Λ code.function) (f.clauses 𝓤 H A at-mem run)
   through-walks C Λ fm known = walked 𝓤 H A f.ended stayed (f.clauses 𝓤 H A at-mem run) (WpFn 𝓤 H C Λ code.function) (λ κs. (LL.vals T.the-type T′.the-laws, (slice-vals, (slice-vals, (slice-vals, tt)))))
       (λ κs. (LL.tells T.the-type T′.the-laws, (shr-slice-tells (named 0) (κs .0) u8, (shr-slice-tells (named 1) (κs .1 .0) u32, (shr-slice-tells (named 2) (κs .1 .1 .0) u32, tt)))))
       (λ κs qs bounds a _ are. via 𝓤 _ (fst∗ 𝓤 _ (emp 𝓤)) (walk 𝓤 H A W at-mem run (κs .0) (κs .1 .0) (κs .1 .1 .0) (qs .0) (qs .1 .0) (qs .1 .1 .0)
@@ -189,7 +189,7 @@ module _ {M : Type 1} (𝓤 : URA M) (H : Heap 𝓤) (A : Atoms 𝓤) (W : Given
   goes : AllGo 𝓤 H A W 3 (f.signature .params) (f.ended .kept) stayed
   goes = (goes-none 𝓤 H A W 3 (λ _. T.the-row) yes (λ κs x f. refl), (goes-none-slice 𝓤 H A W 3 (0 ∷ []) tt (plain (λ _. u8)) yes, (goes-none-slice 𝓤 H A W 3 (1 ∷ []) tt (plain (λ _. u32)) yes, (goes-none-slice 𝓤 H A W 3 (2 ∷ []) tt (plain (λ _. u32)) yes, tt))))
 
-through-meets : {M : Type 1} (𝓤 : URA M) (H : Heap 𝓤) (A : Atoms 𝓤) → Given 𝓤 H A → (at-mem : Memory → SProp 𝓤) (run : Routine → Fun 𝓤) (𝓣 : Tables 𝓤 H) → Triple 𝓤 (𝓣 .C #lent·update-in-place) (Cited 𝓤 H A at-mem run)
+through-meets : {M : Type 1} (𝓤 : URA M) (H : Heap 𝓤) (A : Atoms 𝓤) → Given 𝓤 H A → (at-mem : Memory → SProp 𝓤) (run : Routine → Fun 𝓤) (𝓣 : Tables 𝓤 H) → Triple 𝓤 (𝓣 .C #in-place·update-in-place) (Cited 𝓤 H A at-mem run)
     → Meets 𝓤 H A f.signature (WpFn 𝓤 H (𝓣 .C) (𝓣 .Λ) code.function) (f.spec 𝓤 H A at-mem run)
 through-meets 𝓤 H A W at-mem run 𝓣 known = walk-meets 𝓤 H A f.ended stayed W (goes 𝓤 H A W at-mem run) (f.clauses 𝓤 H A at-mem run) (WpFn 𝓤 H (𝓣 .C) (𝓣 .Λ) code.function) (WpFn-mono 𝓤 H (W .laws) 𝓣 code.function)
     (through-walks 𝓤 H A W at-mem run (𝓣 .C) (𝓣 .Λ) (fmOf 𝓤 H (W .laws) 𝓣) known)
@@ -198,6 +198,6 @@ pub through-spec : {M : Type 1} → stated.statement M
 unfolding code.routine tablesOf
 through-spec 𝓤 H 𝓜 𝓖 𝓡 =
     entered 𝓤 H (tripleOf 𝓤 H (𝓖 .A) f.signature (f.spec 𝓤 H (𝓖 .A) (𝓜 .mem) (𝓡 .run)))
-    (tables 𝓤 H 𝓜 𝓡 code.env .C) (tables 𝓤 H 𝓜 𝓡 code.env .Λ) #lent·through code.function (code.unfolded 𝓤 H 𝓜 𝓡)
+    (tables 𝓤 H 𝓜 𝓡 code.env .C) (tables 𝓤 H 𝓜 𝓡 code.env .Λ) #in-place·through code.function (code.unfolded 𝓤 H 𝓜 𝓡)
     (through-meets 𝓤 H (𝓖 .A) (givenOf 𝓤 H 𝓜 𝓖) (𝓜 .mem) (𝓡 .run) (tablesOf 𝓤 H 𝓜 (tables 𝓤 H 𝓜 𝓡 code.env))
-    (cited 𝓤 H (Cited 𝓤 H (𝓖 .A) (𝓜 .mem) (𝓡 .run)) 𝓜 𝓡 code.env #lent·update-in-place g-def.routine code.calls-lent·update-in-place (g-thm.met 𝓤 H 𝓜 𝓖 𝓡)))
+    (cited 𝓤 H (Cited 𝓤 H (𝓖 .A) (𝓜 .mem) (𝓡 .run)) 𝓜 𝓡 code.env #in-place·update-in-place g-def.routine code.calls-in-place·update-in-place (g-thm.met 𝓤 H 𝓜 𝓖 𝓡)))

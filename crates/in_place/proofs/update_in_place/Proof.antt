@@ -54,7 +54,7 @@ use Rattle.hasher.proofs.update.Symbol as update-def
 use Rattle.hasher.proofs.update.Symbol.{name as #hasher·update}
 use Rattle.hasher.proofs.update.Met as update-thm
 use Rattle.in_place.proofs.Passed.{mach, machU, machN, v, Slices, slices-twice}
-use Rattle.in_place.proofs.update_in_place.Key.{name as #lent·update-in-place}
+use Rattle.in_place.proofs.update_in_place.Key.{name as #in-place·update-in-place}
 use Rattle.in_place.proofs.update_in_place as f
 use Rattle.in_place.proofs.update_in_place.Statement as stated
 use Rattle.in_place.proofs.update_in_place.Code as code
@@ -177,6 +177,6 @@ pub update-in-place-spec : {M : Type 1} → stated.statement M
 unfolding code.routine tablesOf
 update-in-place-spec 𝓤 H 𝓜 𝓖 𝓡 =
     entered 𝓤 H (tripleOf 𝓤 H (𝓖 .A) f.signature (f.spec 𝓤 H (𝓖 .A) (𝓜 .mem) (𝓡 .run)))
-    (tables 𝓤 H 𝓜 𝓡 code.env .C) (tables 𝓤 H 𝓜 𝓡 code.env .Λ) #lent·update-in-place code.function (code.unfolded 𝓤 H 𝓜 𝓡)
+    (tables 𝓤 H 𝓜 𝓡 code.env .C) (tables 𝓤 H 𝓜 𝓡 code.env .Λ) #in-place·update-in-place code.function (code.unfolded 𝓤 H 𝓜 𝓡)
     (in-place-meets 𝓤 H (𝓖 .A) (givenOf 𝓤 H 𝓜 𝓖) (𝓜 .mem) (𝓡 .run) (tablesOf 𝓤 H 𝓜 (tables 𝓤 H 𝓜 𝓡 code.env))
     (cited 𝓤 H (Upd 𝓤 H (𝓖 .A) (𝓜 .mem) (𝓡 .run)) 𝓜 𝓡 code.env #hasher·update update-def.routine code.calls-hasher·update (update-thm.met 𝓤 H 𝓜 𝓖 𝓡)))

@@ -1,4 +1,1 @@
-pub mod Closing
-pub mod Tails
-pub mod Padded
-pub mod Whole
+pub mod Finishing

@@ -2,15 +2,16 @@
 use mathlib.Core.Path.{_≡_}
 use mathlib.Core.Bool.{true}
 use mathlib.Core.List.{List}
-use Prim.Native.Nat.{ℕ, _+_, _-_, _≤_}
+use Prim.Native.Nat.{ℕ, _-_, _≤_}
 use borrow.Author.Tests.{leb-true, le-leb}
 use lib.Dec.{leb}
 use lib.ListN.{length, drop, replicate}
 use lib.Seq.{drop-append-seam}
 use Rattle.word.specs.Choice.{pick}
 use Rattle.word.proofs.Tests.{both-true}
+use Rattle.flags.specs.declared.Flags.{Flags}
 use Rattle.stream.specs.declared.Chain.{Chain}
-use Rattle.hasher.specs.Hasher.{allZero, mostBlocks, wellFormed, moved}
+use Rattle.hasher.specs.Hasher.{allZero, mostBlocks, wellFormed, hasherAt}
 use Rattle.hasher.specs.declared.Hasher.{Hasher}
 use Rattle.hasher.proofs.Zeros.{zeros-are}
 
@@ -28,9 +29,9 @@ formed h e =
     let r = both-true (allZero (drop (h .fill) (h .pending))) _ (q .1) in
     record { fill-le = leb-true _ _ (p .0); blocks-le = leb-true _ _ (q .0); zeros = r .0; mark-ok = r .1 }
 
--- one that moved on, by fewer bytes than a block and so many blocks that they stay in range
-pub moved-formed : (h : Hasher) (c : Chain) (rest : List ℕ) (n : ℕ) → length rest ≤ 63 → h .blocks + n ≤ mostBlocks
-    → pick (c .mark) (h .flags .detect) true ≡ true → wellFormed (moved h c rest n) ≡ true
+-- one that has come to a chain whose blocks are in range, with fewer bytes than a block left
+pub at-formed : (f : Flags) (c : Chain) (rest : List ℕ) → length rest ≤ 63 → c .blocks ≤ mostBlocks → pick (c .mark) (f .detect) true ≡ true
+    → wellFormed (hasherAt f c rest) ≡ true
 unfolding wellFormed
-moved-formed h c rest n l b m =
-    rw (le-leb (length rest) 63 l, le-leb (h .blocks + n) mostBlocks b, drop-append-seam rest (replicate (64 - length rest) 0), zeros-are (64 - length rest)) m
+at-formed f c rest l b m =
+    rw (le-leb (length rest) 63 l, le-leb (c .blocks) mostBlocks b, drop-append-seam rest (replicate (64 - length rest) 0), zeros-are (64 - length rest)) m

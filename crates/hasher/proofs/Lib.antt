@@ -1,4 +1,3 @@
 pub mod Zeros
-pub mod Moves
 pub mod Formed
-pub mod Taken
+pub mod Words

@@ -1,2 +1,1 @@
 pub mod Hasher
-pub mod Ready

@@ -1,26 +1,16 @@
-// The hasher: it takes a message in pieces, and holds what is left of the last block.
+// The hasher: what it holds between the pieces of a message, when it is well formed, and its reset.
 ghost use mathlib.Core.Path.{_≡_};
-ghost use Prim.Native.Nat.{_+_, _*_, _<_, _≤_, _^_};
-ghost use lib.ListN.{length, drop};
-ghost use lib.Seq.{paste};
-ghost use Rattle.stream.specs.Fold.{lookedAt};
-ghost use Rattle.hasher.specs.Hasher.{allZero, wellFormed, masksWrong, tableRefusal, updateRefusal, advanced, absorbed, updated, freshOf, resetOf};
-ghost use Rattle.hasher.specs.Ready.{Ready};
+ghost use Prim.Native.Nat.{_≤_};
+ghost use lib.ListN.{drop};
+ghost use Rattle.hasher.specs.Hasher.{allZero, wellFormed, chainOf, hasherWith, freshOf, resetOf};
+use flags::Flags;
 use refusal::Refusal;
-use refusal::is_nothing;
 use step::five_of;
 use step::regs_of;
 use stream::Chain;
-use stream::Flags;
-use stream::fold_blocks;
-use stream::lent_masks;
-use stream::uses_masks;
-use table::table_fault;
 
-// The largest block count, and the longest message in bytes.
+// The largest block count.
 pub const MOST_BLOCKS: u64 = 0x7FFFFFFFFFFFFF;
-
-pub const MOST_BYTES: u64 = 0x1FFFFFFFFFFFFFFF;
 
 pub struct Hasher {
     pub words: [u32; 5],
@@ -50,6 +40,33 @@ impl Hasher {
             blocks: 0,
             flags,
             mark: false,
+        }
+    }
+
+    // A hasher that has come to a chain, with so many pending bytes. Every hasher that moves on is made here.
+    pub fn at(flags: Flags, c: Chain, pending: [u8; 64], fill: usize) -> Hasher
+        ensures { λ r. ⌜ r ≡ hasherWith flags c pending fill ⌝ }
+    {
+        let words = five_of(c.words);
+        Hasher {
+            words,
+            pending,
+            fill,
+            blocks: c.blocks,
+            flags,
+            mark: c.mark,
+        }
+    }
+
+    // The chain that it has come to.
+    pub fn chain(self) -> Chain
+        ensures { λ r. ⌜ r ≡ chainOf self ⌝ }
+    {
+        let words = self.words;
+        Chain {
+            words: regs_of(words),
+            mark: self.mark,
+            blocks: self.blocks,
         }
     }
 }
@@ -87,142 +104,6 @@ pub fn well_formed(h: Hasher) -> bool
         return flags.detect;
     }
     true
-}
-
-// Whether k masks are a wrong number for so many blocks.
-pub fn masks_wrong(f: Flags, k: usize, blocks: usize) -> bool
-    ensures { λ r. ⌜ r ≡ masksWrong f k blocks ⌝ }
-{
-    if uses_masks(f) {
-        return k != blocks;
-    }
-    false
-}
-
-// What is wrong with the table, where it is looked at.
-pub fn table_refusal(f: Flags, table: &[u32]) -> Refusal
-    ensures { λ r. ⌜ r ≡ tableRefusal f (now (table .entry)) ⌝ }
-{
-    if f.detect {
-        return table_fault(table);
-    }
-    Refusal::Nothing
-}
-
-// What an update refuses.
-fn update_refusal(h: Hasher, bytes: &[u8], table: &[u32], masks: &[u32]) -> Refusal
-    ensures { λ r. ⌜ r ≡ updateRefusal h (now (bytes .entry)) (now (table .entry)) (now (masks .entry)) ⌝ }
-{
-    if !well_formed(h) {
-        return Refusal::HasherForm;
-    }
-    let flags = h.flags;
-    let fill = h.fill;
-    let before = h.blocks * 64 + (fill as u64);
-    if MOST_BYTES - before < (bytes.len() as u64) {
-        return Refusal::MessageLength;
-    }
-    if masks_wrong(flags, masks.len(), (fill + bytes.len()) / 64) {
-        return Refusal::MaskCount;
-    }
-    table_refusal(flags, table)
-}
-
-// The pending bytes with n more after the first `at`.
-fn copied(p: [u8; 64], at: usize, s: &[u8], n: usize) -> [u8; 64]
-    requires { ⌜ at + n ≤ 64 ⌝ }
-    requires { ⌜ n ≤ length (now s) ⌝ }
-    ensures { λ r. ⌜ r ≡ paste p at (now (s .entry)) n ⌝ }
-{
-    let mut d = p;
-    for j in 0..n {
-        d[at + j] = s[j];
-    }
-    d
-}
-
-// The whole blocks of s compressed straight from it, k blocks after h, and the rest left pending.
-fn advance(h: Hasher, table: &[u32], c: Chain, s: &[u8], masks: &[u32], k: usize) -> Hasher
-    requires { ⌜ k ≤ 1 ⌝ }
-    requires { ⌜ h .blocks * 64 + length (now s) < 2 ^ 63 ⌝ }
-    ensures { λ r. ⌜ r ≡ advanced h (now (table .entry)) c (now (s .entry)) (now (masks .entry)) k ⌝ }
-{
-    let flags = h.flags;
-    let e = fold_blocks(flags, table, c, s, masks);
-    let n = s.len() / 64;
-    let at = 64 * n;
-    let left = s.len() - at;
-    let pending = copied([0u8; 64], 0, &s[at..], left);
-    let words = five_of(e.words);
-    Hasher {
-        words,
-        pending,
-        fill: left,
-        blocks: h.blocks + (k as u64) + (n as u64),
-        flags,
-        mark: e.mark,
-    }
-}
-
-// The work of an update that is not refused. Only a partial block goes through the pending bytes.
-fn absorb(h: Hasher, bytes: &[u8], table: &[u32], masks: &[u32]) -> Hasher
-    requires { ⌜ Ready h (now bytes) ⌝ }
-    ensures { λ r. ⌜ r ≡ absorbed h (now (bytes .entry)) (now (table .entry)) (now (masks .entry)) ⌝ }
-{
-    let fill = h.fill;
-    let words = h.words;
-    let pending = h.pending;
-    let flags = h.flags;
-    let c = Chain {
-        words: regs_of(words),
-        mark: h.mark,
-    };
-    let lent = lent_masks(flags, masks);
-    if fill == 0 {
-        return advance(h, table, c, bytes, lent, 0);
-    }
-    let room = 64 - fill;
-    if bytes.len() < room {
-        let p = copied(pending, fill, bytes, bytes.len());
-        return Hasher {
-            words,
-            pending: p,
-            fill: fill + bytes.len(),
-            blocks: h.blocks,
-            flags,
-            mark: h.mark,
-        };
-    }
-    let block = copied(pending, fill, bytes, room);
-    let first = fold_blocks(flags, table, c, &block, lent);
-    advance(h, table, first, &bytes[room..], rest_of(lent), 1)
-}
-
-// The masks after the first block's.
-fn rest_of<'a>(masks: &'a [u32]) -> &'a [u32]
-    ensures { λ r. ⌜ now r ≡ drop 1 (now (masks .entry)) ⌝ }
-{
-    if masks.len() == 0 {
-        return masks;
-    }
-    &masks[1..]
-}
-
-// A piece of the message.
-pub fn update(h: Hasher, bytes: &[u8], table: &[u32], masks: &[u32]) -> Updated
-    ensures { λ r. ⌜ r ≡ updated h (now (bytes .entry)) (now (table .entry)) (now (masks .entry)) ⌝ }
-{
-    let r = update_refusal(h, bytes, table, masks);
-    if is_nothing(r) {
-        return Updated {
-            refusal: r,
-            hasher: absorb(h, bytes, table, masks),
-        };
-    }
-    Updated {
-        refusal: r,
-        hasher: h,
-    }
 }
 
 // Everything but the flags as at the start.

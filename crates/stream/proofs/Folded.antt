@@ -1,42 +1,87 @@
 -- Laws of the fold over all whole blocks of a stream. Assumes nothing.
-use mathlib.Core.Path.{_≡_, refl}
-use mathlib.Core.List.{List, _++_}
-use Prim.Native.Nat.{ℕ, _+_, _*_, _/_, _≤_, _<_}
+use mathlib.Core.Path.{_≡_, refl, _∙_}
+use mathlib.Core.Bool.{Bool, true, false}
+use mathlib.Core.List.{List, [], _++_}
+use Prim.Native.Nat.{ℕ, zero, suc, _+_, _*_, _/_, _≤_, _<_}
 use native.Mathlib.Omega.{arith}
-use lib.ListN.{length, drop, length-append, length-drop, drop-of-length-le}
-use lib.Seq.{drop-append-le}
-use Rattle.stream.specs.Fold.{blockOf, run, folded}
+use lib.ListN.{length, getD, take, drop, length-append, length-drop, drop-of-length-le}
+use lib.Seq.{drop-append-le, drop-nil}
+use Rattle.word.specs.Choice.{pick}
+use Rattle.word.proofs.Tests.{of-either}
+use Rattle.detect.specs.declared.Mode.{Mode}
+use Rattle.flags.specs.Flags.{usesMasks}
+use Rattle.flags.specs.declared.Flags.{Flags}
+use Rattle.stream.specs.Loan.{Loan, lookedAt, later}
+use Rattle.stream.specs.Fold.{allBits, modeOf, checkedOf, plainOf, blockOf, chained, folded}
 use Rattle.stream.specs.declared.Chain.{Chain}
-use Rattle.stream.specs.declared.Flags.{Flags}
-use Rattle.stream.proofs.Folds.{run-zero, run-add, run-front}
+use Rattle.stream.proofs.Plain.{chained-plain}
+use Rattle.stream.proofs.Folds.{chained-zero, chained-add, chained-front}
 
-module _ (f : Flags) (table : List ℕ) (c : Chain) where
-  pub folded-is : (xs ms : List ℕ) → folded f table c xs ms ≡ run (blockOf f table) (length xs / 64) c xs ms
+-- the masks that are looked at after the first n
+drop-picked : (on : Bool) (ms : List ℕ) (n : ℕ) → drop n (pick on ms []) ≡ pick on (drop n ms) []
+drop-picked true ms n = refl
+drop-picked false ms n = drop-nil n
+
+pub looked-later : (f : Flags) (ms : List ℕ) (n : ℕ) → drop n (lookedAt f ms) ≡ lookedAt f (drop n ms)
+looked-later f ms n = drop-picked (usesMasks f) ms n
+
+-- a block counts as one, by any step that counts it so
+chained-blocks : (step : Chain → List ℕ → ℕ → Chain) → ((c : Chain) (xs : List ℕ) (mask : ℕ) → step c xs mask .blocks ≡ c .blocks + 1)
+    → (n : ℕ) (c : Chain) (xs ms : List ℕ) → chained step n c xs ms .blocks ≡ c .blocks + n
+unfolding chained
+chained-blocks step one zero c xs ms = omega arith
+chained-blocks step one (suc n) c xs ms =
+    chained-blocks step one n (step c (take 64 xs) (getD ms 0 allBits)) (drop 64 xs) (drop 1 ms) ∙ rw (one c (take 64 xs) (getD ms 0 allBits)) (omega arith)
+
+block-counts : (on : Bool) (mode : Mode) (table : List ℕ) (c : Chain) (block : List ℕ) (mask : ℕ)
+    → pick on (checkedOf mode table) plainOf c block mask .blocks ≡ c .blocks + 1
+unfolding checkedOf plainOf
+block-counts true mode table c block mask = refl
+block-counts false mode table c block mask = refl
+
+-- with detection off no block leaves a mark, and with it on any mark is right
+marks-right : (on : Bool) (mode : Mode) (table : List ℕ) (n : ℕ) (c : Chain) (xs ms : List ℕ) → pick (c .mark) on true ≡ true
+    → pick (chained (pick on (checkedOf mode table) plainOf) n c xs ms .mark) on true ≡ true
+marks-right true mode table n c xs ms m = of-either (λ (b : Bool). b ≡ true) (chained (checkedOf mode table) n c xs ms .mark) true true refl refl
+marks-right false mode table n c xs ms m = rw (chained-plain n c xs ms) m
+
+module _ (f : Flags) (l : Loan) (c : Chain) where
+  -- a chain that has a mark only with detection on stays so
+  pub folded-mark : (xs : List ℕ) → pick (c .mark) (f .detect) true ≡ true → pick (folded f l c xs .mark) (f .detect) true ≡ true
   unfolding folded
-  folded-is xs ms = refl
+  folded-mark xs = marks-right (f .detect) (modeOf f) (l .tables .vectors) (length xs / 64) c xs (lookedAt f (l .masks))
+
+  pub folded-blocks : (xs : List ℕ) → folded f l c xs .blocks ≡ c .blocks + length xs / 64
+  unfolding folded
+  folded-blocks xs =
+      chained-blocks (blockOf f (l .tables)) (block-counts (f .detect) (modeOf f) (l .tables .vectors)) (length xs / 64) c xs (lookedAt f (l .masks))
+
+  pub folded-is : (xs : List ℕ) → folded f l c xs ≡ chained (blockOf f (l .tables)) (length xs / 64) c xs (lookedAt f (l .masks))
+  unfolding folded
+  folded-is xs = refl
 
   -- less than a block
-  pub folded-none : (xs ms : List ℕ) → length xs < 64 → folded f table c xs ms ≡ c
-  folded-none xs ms h =
+  pub folded-none : (xs : List ℕ) → length xs < 64 → folded f l c xs ≡ c
+  folded-none xs h =
       let n : length xs / 64 ≡ 0 = omega arith in
-      rw (folded-is xs ms, n, run-zero)
+      rw (folded-is xs, n, chained-zero)
 
   -- a stream, and what its rest makes with the next one
-  pub folded-cut : (xs ys ms : List ℕ)
-      → folded f table c (xs ++ ys) ms
-      ≡ folded f table (folded f table c xs ms) (drop (64 * (length xs / 64)) xs ++ ys) (drop (length xs / 64) ms)
+  pub folded-cut : (xs ys : List ℕ)
+      → folded f l c (xs ++ ys) ≡ folded f (later (length xs / 64) l) (folded f l c xs) (drop (64 * (length xs / 64)) xs ++ ys)
   unfolding folded
-  folded-cut xs ys ms =
+  folded-cut xs ys =
       let n = length xs / 64 in
+      let ms = lookedAt f (l .masks) in
+      let step = blockOf f (l .tables) in
       let rest = drop (64 * n) xs ++ ys in
       let g : 64 * n ≤ length xs = omega arith in
-      let l : length (xs ++ ys) / 64 ≡ n + length rest / 64 = omega (arith, length-append xs ys, length-append (drop (64 * n) xs) ys, length-drop (64 * n) xs) in
-      rw (l, run-add (blockOf f table) n (length rest / 64) c (xs ++ ys) ms, run-front (blockOf f table) n c xs ys ms g, drop-append-le (64 * n) xs ys g)
+      let e : length (xs ++ ys) / 64 ≡ n + length rest / 64 = omega (arith, length-append xs ys, length-append (drop (64 * n) xs) ys, length-drop (64 * n) xs) in
+      rw (e, chained-add step n (length rest / 64) c (xs ++ ys) ms, chained-front step n c xs ys ms g, drop-append-le (64 * n) xs ys g, looked-later f (l .masks) n)
 
   -- whole blocks, and what follows them
-  pub folded-join : (n : ℕ) (xs ys ms : List ℕ) → length xs ≡ 64 * n
-      → folded f table c (xs ++ ys) ms ≡ folded f table (folded f table c xs ms) ys (drop n ms)
-  folded-join n xs ys ms h =
+  pub folded-join : (n : ℕ) (xs ys : List ℕ) → length xs ≡ 64 * n → folded f l c (xs ++ ys) ≡ folded f (later n l) (folded f l c xs) ys
+  folded-join n xs ys h =
       let e : length xs / 64 ≡ n = omega arith in
       let d : length xs ≤ 64 * n = omega arith in
-      rw (folded-cut xs ys ms, e, drop-of-length-le xs d)
+      rw (folded-cut xs ys, e, drop-of-length-le xs d)

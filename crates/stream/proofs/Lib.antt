@@ -1,3 +1,4 @@
 pub mod Folds
 pub mod Folded
 pub mod Plain
+pub mod Loans

@@ -1,3 +1,2 @@
-pub mod Fips
-pub mod Flags
+pub mod Loan
 pub mod Fold

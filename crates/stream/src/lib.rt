@@ -1,118 +1,68 @@
-// The blocks of a stream, one after the other, with detection as the flags say.
+// The blocks of a stream, one after the other, with detection as the flags say; and what is refused of what is lent for them.
 ghost use mathlib.Core.Path.{_≡_};
-ghost use Prim.Native.Nat.{_/_};
-ghost use lib.ListN.{length, getD};
-ghost use Rattle.stream.specs.Fips.{hashBlocks};
-ghost use Rattle.stream.specs.Flags.{isLent, usesMasks, defaults, withDetect, withMitigate, withMasks, masksOf, withReduced};
-ghost use Rattle.stream.specs.Fold.{allBits, lookedAt, checkedOf, run, folded};
-use block::compression_plain;
+ghost use Prim.Native.Nat.{_+_, _/_, _^_, _<_};
+ghost use lib.ListN.{length, getD, drop};
+ghost use Rattle.stream.specs.Loan.{loanOf, tablesOf, lookedAt, masksWrong, tablesRefusal, loanRefusal};
+ghost use Rattle.stream.specs.Fold.{allBits, checkedOf, chained, folded};
 use detect::Mode;
 use detect::compress;
+use fips::hash_blocks;
+use flags::Flags;
+use flags::uses_masks;
+use refusal::Refusal;
 use step::Regs;
+use table::table_fault;
 
-// Which vectors a block is tried with: all of them, or those of the mask lent for it.
-pub enum Masks {
-    All,
-    Lent,
-}
-
-// What the Rust's Builder holds.
-pub struct Flags {
-    pub detect: bool,
-    pub mitigate: bool,
-    pub masks: Masks,
-    pub reduced: bool,
-}
-
-impl Flags {
-    // The Rust's defaults: detection, mitigation and masks on, reduced-round mode off.
-    pub fn new() -> Flags
-        ensures { λ r. ⌜ r ≡ defaults ⌝ }
-    {
-        Flags {
-            detect: true,
-            mitigate: true,
-            masks: Masks::Lent,
-            reduced: false,
-        }
-    }
-
-    // Whether collisions are looked for at all.
-    pub fn detect_collision(mut self, on: bool) -> Flags
-        ensures { λ r. ⌜ r ≡ withDetect self on ⌝ }
-    {
-        self.detect = on;
-        self
-    }
-
-    // Whether a marked block is mitigated.
-    pub fn safe_hash(mut self, on: bool) -> Flags
-        ensures { λ r. ⌜ r ≡ withMitigate self on ⌝ }
-    {
-        self.mitigate = on;
-        self
-    }
-
-    // Whether a block is tried only with the vectors of its mask.
-    pub fn use_ubc(self, on: bool) -> Flags
-        ensures { λ r. ⌜ r ≡ withMasks self (masksOf on) ⌝ }
-    {
-        if on {
-            return with_masks(self, Masks::Lent);
-        }
-        with_masks(self, Masks::All)
-    }
-
-    // Whether a sibling that starts where the block starts marks it.
-    pub fn reduced_round_collision(mut self, on: bool) -> Flags
-        ensures { λ r. ⌜ r ≡ withReduced self on ⌝ }
-    {
-        self.reduced = on;
-        self
-    }
-}
-
-// The flags with another masks setting.
-fn with_masks(f: Flags, masks: Masks) -> Flags
-    ensures { λ r. ⌜ r ≡ withMasks f masks ⌝ }
-{
-    Flags {
-        detect: f.detect,
-        mitigate: f.mitigate,
-        masks,
-        reduced: f.reduced,
-    }
-}
-
-// The chaining words between two blocks, and whether a block was marked.
+// What stands between two blocks: the chaining words, whether a block was marked, and how many blocks there were.
 pub struct Chain {
     pub words: Regs,
     pub mark: bool,
+    pub blocks: u64,
 }
 
-// Whether the setting asks for one mask a block.
-fn is_lent(masks: Masks) -> bool
-    ensures { λ r. ⌜ r ≡ isLent masks ⌝ }
+// Whether k masks are a wrong number for so many blocks.
+fn masks_wrong(f: Flags, k: usize, blocks: usize) -> bool
+    ensures { λ r. ⌜ r ≡ masksWrong f k blocks ⌝ }
 {
-    match masks {
-        Masks::All => false,
-        Masks::Lent => true,
-    }
-}
-
-// Whether a call looks at lent masks.
-pub fn uses_masks(f: Flags) -> bool
-    ensures { λ r. ⌜ r ≡ usesMasks f ⌝ }
-{
-    let masks = f.masks;
-    if f.detect {
-        return is_lent(masks);
+    if uses_masks(f) {
+        return k != blocks;
     }
     false
 }
 
+// What is wrong with the tables, where they are looked at.
+fn tables_refusal(f: Flags, table: &[u32]) -> Refusal
+    ensures { λ r. ⌜ r ≡ tablesRefusal f (tablesOf (now (table .entry))) ⌝ }
+{
+    if f.detect {
+        return table_fault(table);
+    }
+    Refusal::Nothing
+}
+
+// What a call that compresses so many blocks refuses of what it is lent.
+pub fn loan_refusal(f: Flags, table: &[u32], masks: &[u32], blocks: usize) -> Refusal
+    ensures { λ r. ⌜ r ≡ loanRefusal f (loanOf (now (table .entry)) (now (masks .entry))) blocks ⌝ }
+{
+    if masks_wrong(f, masks.len(), blocks) {
+        return Refusal::MaskCount;
+    }
+    tables_refusal(f, table)
+}
+
+// The masks after the first n.
+pub fn masks_from<'a>(masks: &'a [u32], n: usize) -> &'a [u32]
+    ensures { λ r. ⌜ now r ≡ drop n (now (masks .entry)) ⌝ }
+{
+    let k = masks.len();
+    if n < k {
+        return &masks[n..];
+    }
+    &masks[k..]
+}
+
 // The masks that a call looks at: those lent, or none.
-pub fn lent_masks<'a>(f: Flags, masks: &'a [u32]) -> &'a [u32]
+fn lent_masks<'a>(f: Flags, masks: &'a [u32]) -> &'a [u32]
     ensures { λ r. ⌜ now r ≡ lookedAt f (now (masks .entry)) ⌝ }
 {
     if uses_masks(f) {
@@ -131,38 +81,27 @@ fn mask_at(masks: &[u32], i: usize) -> u32
     0xFFFFFFFF
 }
 
-// The whole blocks of m, detection off. One loop for both settings would cost a third more time.
-fn fold_plain(h: Regs, m: &[u8]) -> Regs
-    ensures { λ r. ⌜ r ≡ hashBlocks (length (now (m .entry)) / 64) h (now (m .entry)) ⌝ }
-{
-    let mut words = h;
-    for i in 0..m.len() / 64 {
-        let at = 64 * i;
-        words = compression_plain(words, &m[at..at + 64]);
-    }
-    words
-}
-
 // One block with detection: a mark stays.
 fn checked(mode: Mode, table: &[u32], c: Chain, block: &[u8], mask: u32) -> Chain
     requires { ⌜ length (now block) ≡ 64 ⌝ }
+    requires { ⌜ c .blocks + 1 < 2 ^ 64 ⌝ }
     ensures { λ r. ⌜ r ≡ checkedOf mode (now (table .entry)) c (now (block .entry)) mask ⌝ }
 {
     let a = compress(mode, table, c.words, block, mask);
     let words = a.words;
     let found = a.found;
-    if c.mark {
-        return Chain { words, mark: true };
-    }
+    let blocks = c.blocks + 1;
     Chain {
         words,
-        mark: found.mark,
+        blocks,
+        mark: c.mark || found.mark,
     }
 }
 
 // The whole blocks of m, detection on, block i with mask i.
 fn fold_checked(mode: Mode, table: &[u32], start: Chain, m: &[u8], masks: &[u32]) -> Chain
-    ensures { λ r. ⌜ r ≡ run (checkedOf mode (now (table .entry))) (length (now (m .entry)) / 64) start (now (m .entry)) (now (masks .entry)) ⌝ }
+    requires { ⌜ start .blocks + length (now m) / 64 < 2 ^ 64 ⌝ }
+    ensures { λ r. ⌜ r ≡ chained (checkedOf mode (now (table .entry))) (length (now (m .entry)) / 64) start (now (m .entry)) (now (masks .entry)) ⌝ }
 {
     let mut c = start;
     for i in 0..m.len() / 64 {
@@ -172,19 +111,22 @@ fn fold_checked(mode: Mode, table: &[u32], start: Chain, m: &[u8], masks: &[u32]
     c
 }
 
-// The whole blocks of m.
+// The whole blocks of m. Detection off has a loop of its own: one for both settings would cost a third more time.
 pub fn fold_blocks(f: Flags, table: &[u32], c: Chain, m: &[u8], masks: &[u32]) -> Chain
-    ensures { λ r. ⌜ r ≡ folded f (now (table .entry)) c (now (m .entry)) (now (masks .entry)) ⌝ }
+    requires { ⌜ c .blocks + length (now m) / 64 < 2 ^ 64 ⌝ }
+    ensures { λ r. ⌜ r ≡ folded f (loanOf (now (table .entry)) (now (masks .entry))) c (now (m .entry)) ⌝ }
 {
     if f.detect {
         let mode = Mode {
             mitigate: f.mitigate,
             reduced: f.reduced,
         };
-        return fold_checked(mode, table, c, m, masks);
+        return fold_checked(mode, table, c, m, lent_masks(f, masks));
     }
+    let n = m.len() / 64;
     Chain {
-        words: fold_plain(c.words, m),
+        words: hash_blocks(c.words, m),
         mark: c.mark,
+        blocks: c.blocks + (n as u64),
     }
 }

@@ -1,7 +1,7 @@
 -- `finish::finish` meets its contract. Assumes nothing.
 use Rattle.refusal.proofs.Chains.{nothing-is}
 use Rattle.finish.specs.Finish.{finished}
-use Rattle.finish.proofs.Closing.{tested, finish-closing}
+use Rattle.finish.proofs.Finishing.{tested, finish-finishing}
 use borrow.Author.Needs.{needs}
 use Rattle.finish.proofs.finish.Statement.{statement}
 use Rattle.finish.proofs.finish.Tie as tie
@@ -15,7 +15,7 @@ is-nothing-requires c κs = search needs
 last-chain-requires : tie.Need-last-chain-requires
 last-chain-requires c κs =
     let r = c .before .before in
-    finish-closing _ _ _ _ (nothing-is _ (tested (r .finish-refusal .ensures) (c .before .is-nothing .ensures) (c .if1 .taken))) .well
+    finish-finishing _ _ _ (nothing-is _ (tested (r .finish-refusal .ensures) (c .before .is-nothing .ensures) (c .if1 .taken))) .well
 
 verdict-of-requires : tie.Need-verdict-of-requires
 verdict-of-requires c κs = search needs

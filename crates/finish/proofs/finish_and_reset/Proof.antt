@@ -1,7 +1,12 @@
 -- `finish::finish_and_reset` meets its contract. Assumes nothing.
+use mathlib.Core.Path.{_≡_, sym, ap, _∙_}
+use native.Mathlib.Omega.{arith}
+use lib.ListN.{length}
+use Rattle.octets.proofs.Stored.{stored-n}
+use Rattle.fips.proofs.Tails.{digest-length}
 use Rattle.refusal.proofs.Chains.{nothing-is}
-use Rattle.finish.specs.Finish.{closed, writtenOut}
-use Rattle.finish.proofs.Closing.{tested, finish-closing}
+use Rattle.finish.specs.Finish.{finishedReset, writtenOut}
+use Rattle.finish.proofs.Finishing.{tested, finish-finishing}
 use borrow.Author.Needs.{needs}
 use Rattle.finish.proofs.finish_and_reset.Statement.{statement}
 use Rattle.finish.proofs.finish_and_reset.Tie as tie
@@ -15,15 +20,21 @@ is-nothing-requires c κs = search needs
 last-chain-requires : tie.Need-last-chain-requires
 last-chain-requires c κs =
     let r = c .before .before in
-    finish-closing _ _ _ _ (nothing-is _ (tested (r .finish-refusal .ensures) (c .before .is-nothing .ensures) (c .if1 .taken))) .well
+    finish-finishing _ _ _ (nothing-is _ (tested (r .finish-refusal .ensures) (c .before .is-nothing .ensures) (c .if1 .taken))) .well
 
 digest-requires : tie.Need-digest-requires
 digest-requires c κs = search needs
 
-put-requires : tie.Need-put-requires
-put-requires c κs =
-    let i = c .before .before .before .before in
-    finish-closing _ _ _ _ (nothing-is _ (tested (i .before .before .finish-refusal .ensures) (i .before .is-nothing .ensures) (i .if1 .taken))) .sized
+slice-aggregate-store : tie.Need-slice-aggregate-store
+slice-aggregate-store c = search needs
+
+store-requires : tie.Need-store-requires
+store-requires c κs =
+    let g = c .before .before in
+    let i = g .before .before .before in
+    let d = ap length (g .digest .ensures) ∙ digest-length _ in
+    let s = finish-finishing _ _ _ (nothing-is _ (tested (i .before .before .finish-refusal .ensures) (i .before .is-nothing .ensures) (i .if1 .taken))) .sized in
+    (omega arith, omega arith)
 
 verdict-of-requires : tie.Need-verdict-of-requires
 verdict-of-requires c κs = search needs
@@ -35,18 +46,21 @@ same-length : tie.Need-same-length
 same-length c = search needs
 
 returns : tie.Need-returns
-unfolding closed writtenOut
+unfolding finishedReset writtenOut
 returns c =
-    let p = c .before .before .before .before in
-    let l = p .before .before .before .before in
+    let s = c .before .before .before .before in
+    let l = s .before .before .before .before .before in
     let r = l .before .before .before in
-    let n = tested (r .finish-refusal .ensures) (l .before .before .is-nothing .ensures) (l .before .if1 .taken) in (
+    let n = tested (r .finish-refusal .ensures) (l .before .before .is-nothing .ensures) (l .before .if1 .taken) in
+    let g = s .before .before .before in
+    let d = ap length (g .digest .ensures) ∙ digest-length _ in
+    let z = finish-finishing _ _ _ (nothing-is _ n) .sized in (
       rw (n, c .new .ensures, c .before .verdict-of .ensures, l .last-chain .ensures),
-      rw (n, p .put .ensures, p .before .digest .ensures, l .last-chain .ensures),
+      rw n (s .store .ensures ∙ stored-n (r .before .before .before .before .args .out .now) (g .digest .result) 20 z d ∙ g .digest .ensures ∙ rw (l .last-chain .ensures)),
     )
 
 returns-2 : tie.Need-returns-2
-unfolding closed writtenOut
+unfolding finishedReset writtenOut
 returns-2 c =
     let r = c .before .before .finish-refusal .ensures in
     let n = tested r (c .before .is-nothing .ensures) (c .if1 .left) in
@@ -60,7 +74,8 @@ finish-and-reset-spec =
     is-nothing-requires
     last-chain-requires
     digest-requires
-    put-requires
+    slice-aggregate-store
+    store-requires
     verdict-of-requires
     new-requires
     same-length

@@ -20,34 +20,19 @@ returns-2 c = rw (sym (c .before .before .well-formed .ensures) ∙ not-false _ 
 tail-blocks-requires : tie.Need-tail-blocks-requires
 tail-blocks-requires c κs = search needs
 
-masks-wrong-requires : tie.Need-masks-wrong-requires
-masks-wrong-requires c κs = search needs
+loan-refusal-requires : tie.Need-loan-refusal-requires
+loan-refusal-requires c κs = search needs
 
 returns-3 : tie.Need-returns-3
 unfolding finishRefusal
 returns-3 c =
-    let s = c .before .before .before .before in
+    let s = c .before .before .before in
     rw (
       sym (s .before .before .well-formed .ensures) ∙ not-false _ (s .before .if1 .left),
       eq-eqb _ _ (s .if2 .left),
-      ← c .before .before .tail-blocks .ensures,
-      sym (c .before .masks-wrong .ensures) ∙ c .if3 .taken,
+      ← c .before .tail-blocks .ensures,
     )
-
-table-refusal-requires : tie.Need-table-refusal-requires
-table-refusal-requires c κs = search needs
-
-returns-4 : tie.Need-returns-4
-unfolding finishRefusal
-returns-4 c =
-    let s = c .before .before .before .before .before in
-    rw (
-      sym (s .before .before .well-formed .ensures) ∙ not-false _ (s .before .if1 .left),
-      eq-eqb _ _ (s .if2 .left),
-      ← c .before .before .before .tail-blocks .ensures,
-      sym (c .before .before .masks-wrong .ensures) ∙ c .before .if3 .left,
-      c .table-refusal .ensures,
-    )
+    (c .loan-refusal .ensures)
 
 pub finish-refusal-spec : {M : Type 1} → statement M
 finish-refusal-spec =
@@ -57,7 +42,5 @@ finish-refusal-spec =
     returns
     returns-2
     tail-blocks-requires
-    masks-wrong-requires
-    returns-3
-    table-refusal-requires
-    returns-4)
+    loan-refusal-requires
+    returns-3)

@@ -45,6 +45,7 @@ use denote.Exit.{yes}
 use Rattle.hasher.specs.declared.Hasher.{Hasher}
 use Rattle.hasher.specs.declared.Updated.{Updated}
 use Rattle.refusal.specs.declared.Refusal.{Refusal}
+use Rattle.stream.specs.Loan.{loanOf}
 use Rattle.in_place.specs.InPlace.{InPlace}
 use Rattle.hasher.proofs.Hasher as T
 use Rattle.hasher.proofs.Hasher.Laws as T′
@@ -130,7 +131,7 @@ module _ {M : Type 1} (𝓤 : URA M) (H : Heap 𝓤) (A : Atoms 𝓤) (W : Given
   abbrev Lasts : Type 0
   Lasts = Hasher × (Unit {0} × (Unit {0} × (Unit {0} × Unit {0})))
 
-  exits : (n : Refusal) (w : Hasher) → InPlace h (s₁ .now) (s₂ .now) (s₃ .now) n w → Is T.the-row h (mach h ∷ []) → Is U.the-row (put-together n w) (machU (put-together n w) ∷ []) → ent 𝓤 (⋆ 𝓤 H A (Toks ∷ ‵ Rest ∷ [])) (Post (machU (put-together n w)))
+  exits : (n : Refusal) (w : Hasher) → InPlace h (s₁ .now) (loanOf (s₂ .now) (s₃ .now)) n w → Is T.the-row h (mach h ∷ []) → Is U.the-row (put-together n w) (machU (put-together n w) ∷ []) → ent 𝓤 (⋆ 𝓤 H A (Toks ∷ ‵ Rest ∷ [])) (Post (machU (put-together n w)))
   exits n w e was is =
       qed W (Toks ∷ ‵ Rest ∷ []) ∵
       suffices ! _ (ends-at 𝓤 H A f.ended stayed (f.clauses 𝓤 H A at-mem run) W (((κ₁, (κ₂, (κ₃, tt))), (q₁, (q₂, (q₃, tt))), tt, x, vals (mach h)), tt) (machU (put-together n w)) (put-together n w) (tt, (tt, (tt, (tt, tt)))) (tt, (tt, (tt, (tt, tt))))) $
@@ -159,8 +160,8 @@ module _ {M : Type 1} (𝓤 : URA M) (H : Heap 𝓤) (A : Atoms 𝓤) (W : Given
         calls-at ! fm (Cited 𝓤 H A at-mem run) known (to ν δ l₅) (and-then ! (load ! (from ! (stop !)) (look ! 4 refl)) (and-then ! (load ! (from ! (stop !)) (look ! 13 refl)) (and-then ! (load ! (from ! (stop !)) (look ! 11 refl)) (and-then ! (load ! (from ! (stop !)) (look ! 9 refl)) (no-more !))))) (λ u.
         use1 W (later (some (λ (n : Refusal). ((‵ (flft (ν ∷ []) fullShare) ⊛ Toks) ⊛ ‵ (N.the-row .own n (u ∷ []))) ⊛ raw (ensured 𝓤 H A g.ended (g.clauses 𝓤 H A at-mem run) (ν ∷ [], (κ₁, (κ₂, (κ₃, tt)))) (lent-at l₅ δ, (s₁, (s₂, (s₃, tt)))) tt n)))) (id⊢ 𝓤 _) $ await ! tt $ pick ! (λ n.
         -- what it ensures, at some last hasher
-        split ! $ move ! (1 ∷ []) $ use1 W (some (λ (ls : Lasts). ‵ (lasts g.ended (ν ∷ [], (κ₁, (κ₂, (κ₃, tt)))) (lent-at l₅ δ, (s₁, (s₂, (s₃, tt)))) ls) ⊛ raw (fact 𝓤 (InPlace h (s₁ .now) (s₂ .now) (s₃ .now) n (ls .0))))) (id⊢ 𝓤 _) $ pick ! (λ ls.
-        split ! $ move ! (1 ∷ []) $ heard ! (InPlace h (s₁ .now) (s₂ .now) (s₃ .now) n (ls .0)) (λ e. fsplit ! $ move ! (1 ∷ []) $ drop ! $ move ! (1 ∷ []) $ split ! $ move ! (1 ∷ []) $
+        split ! $ move ! (1 ∷ []) $ use1 W (some (λ (ls : Lasts). ‵ (lasts g.ended (ν ∷ [], (κ₁, (κ₂, (κ₃, tt)))) (lent-at l₅ δ, (s₁, (s₂, (s₃, tt)))) ls) ⊛ raw (fact 𝓤 (InPlace h (s₁ .now) (loanOf (s₂ .now) (s₃ .now)) n (ls .0))))) (id⊢ 𝓤 _) $ pick ! (λ ls.
+        split ! $ move ! (1 ∷ []) $ heard ! (InPlace h (s₁ .now) (loanOf (s₂ .now) (s₃ .now)) n (ls .0)) (λ e. fsplit ! $ move ! (1 ∷ []) $ drop ! $ move ! (1 ∷ []) $ split ! $ move ! (1 ∷ []) $
         peeks ! N.the-row (Is N.the-row) (shows 𝓤 H A N.the-row) n (u ∷ []) (λ is₀. rewrite ! 0 (λ (w : Val). ‵ (N.the-row .own n (w ∷ []))) (ap only (EL.tells N.the-type N′.the-laws n _ is₀)) refl $
         facts ! N.the-row (Is N.the-row) (shows 𝓤 H A N.the-row) n (machN n ∷ []) (λ is.
         -- [0 the tokens; 1 what says the last hasher; 2 the lender's part; 3 _8; 5 _7; 7 _6; 9 what frees _5; 10 _4; 12 _3; 14 _2; 16 _1; 18 _0; 20 Rest]

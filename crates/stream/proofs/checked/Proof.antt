@@ -7,6 +7,9 @@ use Rattle.stream.proofs.checked.Tie as tie
 compress-requires : tie.Need-compress-requires
 compress-requires c κs = search needs
 
+add-blocks : tie.Need-add-blocks
+add-blocks c = search needs
+
 returns : tie.Need-returns
 unfolding checkedOf
 returns c = rw (c .before .before .before .compress .ensures, c .if1 .taken)
@@ -16,4 +19,4 @@ unfolding checkedOf
 returns-2 c = rw (c .before .before .before .compress .ensures, c .if1 .left)
 
 pub checked-spec : {M : Type 1} → statement M
-checked-spec = tie.close (tie.spec compress-requires returns returns-2)
+checked-spec = tie.close (tie.spec compress-requires add-blocks returns returns-2)

@@ -1,0 +1,55 @@
+-- A whole message that is not refused: what is known of it, and of the hasher that has taken it. Assumes nothing.
+use mathlib.Core.Path.{_≡_, refl}
+use mathlib.Core.Bool.{true}
+use mathlib.Core.List.{List}
+use Prim.Native.Nat.{ℕ, _/_, _≤_}
+use native.Mathlib.Omega.{arith}
+use borrow.Author.Tests.{ltb-false, le-ltb}
+use lib.Dec.{lit<}
+use lib.ListN.{length}
+use Rattle.refusal.specs.declared.Refusal.the-variants.{Nothing, MessageLength}
+use Rattle.refusal.proofs.Passed.{passed}
+use Rattle.fips.specs.Fips.{mostBytes}
+use Rattle.flags.specs.declared.Flags.{Flags}
+use Rattle.stream.specs.Loan.{Loan, later, loanRefusal}
+use Rattle.stream.specs.Fold.{firstChain, folded}
+use Rattle.stream.proofs.Folded.{folded-mark, folded-blocks}
+use Rattle.hasher.specs.Hasher.{wellFormed, freshOf}
+use Rattle.hasher.proofs.Formed.{at-formed}
+use Rattle.hasher.proofs.Zeros.{zeros-are}
+use Rattle.update.specs.Update.{restOf, absorbed}
+use Rattle.update.specs.Ready.{Ready}
+use Rattle.update.proofs.Moves.{rest-length, absorbed-is}
+use Rattle.finish.specs.Finish.{lastChain}
+use Rattle.one_shot.specs.Whole.{blocksOf, wholeRefusal, wholeChain}
+use Rattle.one_shot.proofs.Padded.{last-chain-is}
+
+pub record Whole (f : Flags) (n : ℕ) (l : Loan) : Type 0 where
+  pub short : n ≤ mostBytes
+  pub loan : loanRefusal f l (blocksOf n) ≡ Nothing
+
+module _ (f : Flags) (n : ℕ) (l : Loan) where
+  pub refusal-whole : wholeRefusal f n l ≡ Nothing → Whole f n l
+  unfolding wholeRefusal
+  refusal-whole e = let p = passed _ MessageLength _ (lit< tt) e in record { short = ltb-false _ _ (p .0); loan = p .1 }
+
+  pub whole-refusal : Whole f n l → wholeRefusal f n l ≡ Nothing
+  unfolding wholeRefusal
+  whole-refusal w = rw (le-ltb _ _ (w .short)) (w .loan)
+
+-- a new hasher can take a message that is short enough
+pub whole-ready : (f : Flags) (bytes : List ℕ) → length bytes ≤ mostBytes → Ready (freshOf f) bytes
+whole-ready f bytes s = record { fill-le = omega arith; zeros = zeros-are 64; fits = omega arith }
+
+module _ (f : Flags) (bytes : List ℕ) (l : Loan) where
+  -- and is well formed then
+  pub fed-formed : length bytes ≤ mostBytes → wellFormed (absorbed (freshOf f) bytes l) ≡ true
+  fed-formed s =
+      let r = rest-length bytes in
+      rw (absorbed-is (freshOf f) bytes l)
+      (at-formed f (folded f l firstChain bytes) (restOf bytes) (omega arith) (omega (arith, folded-blocks f l firstChain bytes)) (folded-mark f l firstChain bytes refl))
+
+  -- its last blocks end where the padded message does
+  pub fed-chain : lastChain (absorbed (freshOf f) bytes l) (later (length bytes / 64) l) ≡ wholeChain f bytes l
+  unfolding wholeChain
+  fed-chain = last-chain-is f bytes l

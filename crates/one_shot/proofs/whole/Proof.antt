@@ -1,0 +1,85 @@
+-- `one_shot::whole` meets its contract. Assumes nothing.
+use mathlib.Core.Path.{_≡_}
+use Prim.Native.Nat.{_≤_}
+use lib.ListN.{length}
+use Rattle.refusal.proofs.Chains.{nothing-is}
+use Rattle.fips.specs.Fips.{mostBytes}
+use Rattle.stream.specs.Loan.{loanOf}
+use Rattle.finish.proofs.Finishing.{tested}
+use Rattle.one_shot.specs.Whole.{wholeOf}
+use Rattle.one_shot.proofs.Fed.{refusal-whole, whole-ready, fed-formed, fed-chain}
+use borrow.Author.Needs.{needs}
+use Rattle.one_shot.proofs.whole.Statement.{statement}
+use Rattle.one_shot.proofs.whole.Tie as tie
+
+-- where nothing is refused the message is short enough
+short : (c : tie.Then1) → length (c .before .before .before .before .before .before .args .bytes .now) ≤ mostBytes
+short c =
+    let r = c .before .before in
+    refusal-whole _ _ _ (nothing-is _ (tested (r .whole-refusal .ensures) (c .before .is-nothing .ensures) (c .if1 .taken))) .short
+
+whole-refusal-requires : tie.Need-whole-refusal-requires
+whole-refusal-requires c κs = search needs
+
+is-nothing-requires : tie.Need-is-nothing-requires
+is-nothing-requires c κs = search needs
+
+new-requires : tie.Need-new-requires
+new-requires c κs = search needs
+
+absorb-requires : tie.Need-absorb-requires
+absorb-requires c κs = rw (c .new .ensures) (whole-ready _ _ (short (c .before)))
+
+masks-from-requires : tie.Need-masks-from-requires
+masks-from-requires c κs = search needs
+
+last-chain-requires : tie.Need-last-chain-requires
+last-chain-requires c κs =
+    let b = c .before in
+    rw (b .absorb .ensures, b .before .new .ensures) (fed-formed _ _ _ (short (b .before .before)))
+
+verdict-of-requires : tie.Need-verdict-of-requires
+verdict-of-requires c κs = search needs
+
+digest-requires : tie.Need-digest-requires
+digest-requires c κs = search needs
+
+returns : tie.Need-returns
+unfolding wholeOf
+returns c =
+    let l = c .before .before in
+    let b = l .before .before in
+    let n = b .before in
+    let i = n .before in
+    let a = i .before .before .before .before .before .before .args in
+    rw (
+      tested (i .before .before .whole-refusal .ensures) (i .before .is-nothing .ensures) (i .if1 .taken),
+      c .digest .ensures,
+      c .before .verdict-of .ensures,
+      l .last-chain .ensures,
+      l .before .masks-from .ensures,
+      b .absorb .ensures,
+      n .new .ensures,
+      fed-chain (a .flags) (a .bytes .now) (loanOf (a .table .now) (a .masks .now)),
+    )
+
+returns-2 : tie.Need-returns-2
+unfolding wholeOf
+returns-2 c =
+    let r = c .before .before .whole-refusal .ensures in
+    rw (tested r (c .before .is-nothing .ensures) (c .if1 .left), r)
+
+pub whole-spec : {M : Type 1} → statement M
+whole-spec =
+    tie.close
+    (tie.spec
+    whole-refusal-requires
+    is-nothing-requires
+    new-requires
+    absorb-requires
+    masks-from-requires
+    last-chain-requires
+    verdict-of-requires
+    digest-requires
+    returns
+    returns-2)

@@ -15,8 +15,9 @@ use Rattle.step.proofs.Runs.{steps-words, undos-words, steps-undos, undos-steps
 use Rattle.step.proofs.Same.{same-equal, same-self}
 use Rattle.block.specs.Schedule.{wordsOf, scheduleOf}
 use Rattle.block.specs.Compress.{overSchedule, compressOf}
-use Rattle.block.specs.Sibling.{siblingSchedule, recompressed}
-use Rattle.block.proofs.Linear.{sibling-schedule, words-words}
+use Rattle.sibling.specs.Sibling.{siblingSchedule, recompressed}
+use Rattle.block.proofs.Bounds.{words-words}
+use Rattle.sibling.proofs.Linear.{sibling-schedule}
 use Rattle.table.specs.Limits.{dmWords, recordWords}
 use Rattle.table.specs.Table.{testWordAt, dmAt}
 use Rattle.table.specs.Good.{GoodRecord, GoodTable}

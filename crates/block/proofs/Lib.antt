@@ -1,4 +1,3 @@
 pub mod Growth
+pub mod Bounds
 pub mod Stages
-pub mod Back
-pub mod Linear

@@ -1,4 +1,3 @@
 pub mod Schedule
 pub mod Compress
-pub mod Sibling
 pub mod Stage

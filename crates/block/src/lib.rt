@@ -1,4 +1,5 @@
-// The compression of one block: plain, with the two states that detection needs, and of a sibling from such a state.
+// The compression of one block: plain, with the two states that detection needs, and over a schedule that is there
+// already.
 ghost use mathlib.Core.Path.{_≡_};
 ghost use mathlib.Core.List.{List};
 ghost use Prim.Native.Nat.{ℕ, _<_, _≤_};
@@ -6,14 +7,12 @@ ghost use lib.ListN.{length};
 ghost use Rattle.octets.specs.Octets.{be32At};
 ghost use Rattle.block.specs.Schedule.{wordsOf, scheduleOf};
 ghost use Rattle.block.specs.Compress.{overSchedule, compressOf, statesOf};
-ghost use Rattle.block.specs.Sibling.{siblingSchedule, recompressed};
 ghost use Rattle.block.specs.Stage.{Stage, Onward};
 use octets::be_word;
 use step::Regs;
 use step::add_regs;
 use step::step;
 use step::steps;
-use step::undos;
 use word::mix;
 
 // What one compression leaves for detection, all in the order of FIPS 180-4.
@@ -23,12 +22,6 @@ pub struct States {
     // After steps 0 to 64.
     pub s65: Regs,
     // The chaining words.
-    pub out: Regs,
-}
-
-// Where a compression started and where it ended.
-pub struct Ends {
-    pub start: Regs,
     pub out: Regs,
 }
 
@@ -58,7 +51,7 @@ fn begin(from: usize, to: usize, start: Regs, w: &mut [u32], block: &[u8]) -> Re
 
 // Words from..to of the schedule made by the rule, each stepped as soon as it is there. Runs of ten unroll; longer
 // ones do not.
-fn run(from: usize, to: usize, start: Regs, w: &mut [u32; 80]) -> Regs
+fn extend(from: usize, to: usize, start: Regs, w: &mut [u32; 80]) -> Regs
     requires { ⌜ (16 ≤ from) × (from ≤ to) × (to ≤ 80) ⌝ }
     ensures { λ r. ⌜ ((m : List ℕ) → Onward m from to (now (w .entry)) start (now (w .exit)) r) ⌝ }
 {
@@ -79,9 +72,9 @@ fn first_forty(h: Regs, block: &[u8], w: &mut [u32; 80]) -> Regs
 {
     let s8 = begin(0, 8, h, w, block);
     let s16 = begin(8, 16, s8, w, block);
-    let s20 = run(16, 20, s16, w);
-    let s30 = run(20, 30, s20, w);
-    run(30, 40, s30, w)
+    let s20 = extend(16, 20, s16, w);
+    let s30 = extend(20, 30, s20, w);
+    extend(30, 40, s30, w)
 }
 
 // The chaining words after a block, for detection off.
@@ -92,13 +85,13 @@ pub fn compression_plain(h: Regs, block: &[u8]) -> Regs
     let mut w = [0u32; 80];
     let s8 = begin(0, 8, h, &mut w, block);
     let s16 = begin(8, 16, s8, &mut w, block);
-    let s20 = run(16, 20, s16, &mut w);
-    let s30 = run(20, 30, s20, &mut w);
-    let s40 = run(30, 40, s30, &mut w);
-    let s50 = run(40, 50, s40, &mut w);
-    let s60 = run(50, 60, s50, &mut w);
-    let s70 = run(60, 70, s60, &mut w);
-    let s80 = run(70, 80, s70, &mut w);
+    let s20 = extend(16, 20, s16, &mut w);
+    let s30 = extend(20, 30, s20, &mut w);
+    let s40 = extend(30, 40, s30, &mut w);
+    let s50 = extend(40, 50, s40, &mut w);
+    let s60 = extend(50, 60, s50, &mut w);
+    let s70 = extend(60, 70, s60, &mut w);
+    let s80 = extend(70, 80, s70, &mut w);
     add_regs(h, s80)
 }
 
@@ -108,12 +101,12 @@ pub fn compression_states(h: Regs, block: &[u8], w: &mut [u32; 80]) -> States
     ensures { λ r. ⌜ (now (w .exit) ≡ scheduleOf (wordsOf (now (block .entry)))) × (r ≡ statesOf h (scheduleOf (wordsOf (now (block .entry))))) ⌝ }
 {
     let s40 = first_forty(h, block, w);
-    let s50 = run(40, 50, s40, w);
-    let s58 = run(50, 58, s50, w);
-    let s60 = run(58, 60, s58, w);
-    let s65 = run(60, 65, s60, w);
-    let s75 = run(65, 75, s65, w);
-    let s80 = run(75, 80, s75, w);
+    let s50 = extend(40, 50, s40, w);
+    let s58 = extend(50, 58, s50, w);
+    let s60 = extend(58, 60, s58, w);
+    let s65 = extend(60, 65, s60, w);
+    let s75 = extend(65, 75, s65, w);
+    let s80 = extend(75, 80, s75, w);
     States {
         s58,
         s65,
@@ -129,44 +122,4 @@ pub fn compression_w(h: Regs, w: &[u32; 80]) -> Regs
     let s40 = steps(20, 40, s20, w);
     let s60 = steps(40, 60, s40, w);
     add_regs(h, steps(60, 80, s60, w))
-}
-
-// The sibling's schedule, for a vector's difference words dm.
-pub fn sibling(w: &[u32; 80], dm: &[u32]) -> [u32; 80]
-    requires { ⌜ length (now dm) ≡ 80 ⌝ }
-    ensures { λ r. ⌜ r ≡ siblingSchedule (now (w .entry)) (now (dm .entry)) ⌝ }
-{
-    let mut v = [0u32; 80];
-    for t in 0..80 {
-        v[t] = w[t] ^ dm[t];
-    }
-    v
-}
-
-// The compression over the schedule w that has the state s after steps 0 to 57.
-pub fn recompress_fast_58(w: &[u32; 80], s: Regs) -> Ends
-    ensures { λ r. ⌜ r ≡ recompressed (now (w .entry)) 58 s ⌝ }
-{
-    let s40 = undos(40, 58, s, w);
-    let s20 = undos(20, 40, s40, w);
-    let start = undos(0, 20, s20, w);
-    let s60 = steps(58, 60, s, w);
-    Ends {
-        start,
-        out: add_regs(start, steps(60, 80, s60, w)),
-    }
-}
-
-// The compression over the schedule w that has the state s after steps 0 to 64.
-pub fn recompress_fast_65(w: &[u32; 80], s: Regs) -> Ends
-    ensures { λ r. ⌜ r ≡ recompressed (now (w .entry)) 65 s ⌝ }
-{
-    let s60 = undos(60, 65, s, w);
-    let s40 = undos(40, 60, s60, w);
-    let s20 = undos(20, 40, s40, w);
-    let start = undos(0, 20, s20, w);
-    Ends {
-        start,
-        out: add_regs(start, steps(65, 80, s, w)),
-    }
 }

@@ -15,11 +15,13 @@ use Rattle.step.proofs.Runs.{steps-words, undos-words, steps-undos, undos-steps
 use Rattle.step.proofs.Same.{same-equal, same-self}
 use Rattle.block.specs.Schedule.{wordsOf, scheduleOf}
 use Rattle.block.specs.Compress.{overSchedule, compressOf}
-use Rattle.block.specs.Sibling.{siblingSchedule, recompressed}
-use Rattle.block.proofs.Linear.{sibling-schedule, words-words}
+use Rattle.sibling.specs.Sibling.{siblingSchedule, recompressed}
+use Rattle.block.proofs.Bounds.{words-words}
+use Rattle.sibling.proofs.Linear.{sibling-schedule}
 use Rattle.table.specs.Limits.{dmWords, recordWords}
 use Rattle.table.specs.Table.{testWordAt, dmAt}
 use Rattle.table.specs.Good.{GoodRecord, GoodTable}
+use Rattle.table.proofs.Good.{step-of}
 use Rattle.detect.specs.Detect.{siblingEnds, marks, answerOf, oneBlockOf}
 use Rattle.detect.specs.declared.Mode.{Mode}
 use Rattle.detect.proofs.Ended.{found-ended, marked-some, some-marked}
@@ -64,7 +66,7 @@ module _ (h : Regs) (block table : List ℕ) (hw : Words h) (bytes : AllBytes bl
     start-is : startOf ≡ undosOf (scheduleOf (siblingWords block table i)) 0 (testWordAt table i) (stateAtTest (wordsOf block) table i h)
     unfolding startOf siblingEnds recompressed
     start-is =
-        ap₂ (λ (u : List ℕ) (n : ℕ). undosOf u 0 n (stepsOf (scheduleOf (wordsOf block)) 0 n h)) sibling-is (good .step)
+        ap₂ (λ (u : List ℕ) (n : ℕ). undosOf u 0 n (stepsOf (scheduleOf (wordsOf block)) 0 n h)) sibling-is (step-of (testWordAt table i) (good .known))
 
     test-words : Words (stateAtTest (wordsOf block) table i h)
     test-words = steps-words (scheduleOf (wordsOf block)) (testWordAt table i) 0 h hw

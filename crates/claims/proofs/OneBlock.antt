@@ -17,7 +17,7 @@ use Rattle.step.proofs.Runs.{undos-steps}
 use Rattle.step.proofs.Same.{same-self}
 use Rattle.block.specs.Schedule.{wordsOf, scheduleOf}
 use Rattle.block.specs.Compress.{overSchedule, compressOf}
-use Rattle.block.specs.Sibling.{siblingSchedule, recompressed}
+use Rattle.sibling.specs.Sibling.{siblingSchedule, recompressed}
 use Rattle.block.proofs.Growth.{word, schedule-list, schedule-at}
 use Rattle.table.specs.Limits.{dmWords}
 use Rattle.table.specs.Table.{recordsIn, maskNumberAt, dmAt}

@@ -6,8 +6,8 @@ use Prim.Native.Nat.{ℕ}
 use Rattle.step.specs.Step.{stepsOf, sameRegs}
 use Rattle.step.specs.declared.Regs.{Regs}
 use Rattle.block.specs.Compress.{statesOf}
-use Rattle.block.specs.Sibling.{siblingSchedule, recompressed}
-use Rattle.block.specs.declared.Ends.{Ends}
+use Rattle.sibling.specs.Sibling.{siblingSchedule, recompressed}
+use Rattle.sibling.specs.declared.Ends.{Ends}
 use Rattle.block.specs.declared.States.{States}
 use Rattle.table.specs.Table.{stepsBefore, testtOf, testWordAt, dmAt}
 use Rattle.table.specs.declared.Testt.{Testt}

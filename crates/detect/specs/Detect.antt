@@ -9,8 +9,8 @@ use Rattle.step.specs.Step.{stepsOf, sameRegs, regsOf, fiveOf}
 use Rattle.step.specs.declared.Regs.{Regs}
 use Rattle.block.specs.Schedule.{wordsOf, scheduleOf}
 use Rattle.block.specs.Compress.{overSchedule}
-use Rattle.block.specs.Sibling.{siblingSchedule, recompressed}
-use Rattle.block.specs.declared.Ends.{Ends}
+use Rattle.sibling.specs.Sibling.{siblingSchedule, recompressed}
+use Rattle.sibling.specs.declared.Ends.{Ends}
 use Rattle.refusal.specs.Refusal.{isNothing, firstOf}
 use Rattle.refusal.specs.declared.Refusal.{Refusal}
 use Rattle.refusal.specs.declared.Refusal.the-variants.{Nothing, Size}

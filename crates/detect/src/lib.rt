@@ -6,20 +6,20 @@ ghost use Prim.Native.Nat.{_+_, _*_, _<_, _≤_};
 ghost use lib.ListN.{length};
 ghost use Rattle.word.specs.Choice.{pick};
 ghost use Rattle.block.specs.Compress.{overSchedule, statesOf};
-ghost use Rattle.block.specs.Sibling.{recompressed};
+ghost use Rattle.sibling.specs.Sibling.{recompressed};
 ghost use Rattle.table.specs.Limits.{recordWords};
 ghost use Rattle.table.specs.Table.{stepsBefore};
 ghost use Rattle.step.specs.Step.{stepsOf};
 ghost use Rattle.detect.specs.Detect.{hasBit, stateKept, endsFrom, marks, foundIn, twiceMore, answerOf, refusedBlock, oneBlockOf};
-use block::Ends;
 use block::States;
 use block::compression_states;
 use block::compression_w;
-use block::recompress_fast_58;
-use block::recompress_fast_65;
-use block::sibling;
 use refusal::Refusal;
 use refusal::is_nothing;
+use sibling::Ends;
+use sibling::recompress_fast_58;
+use sibling::recompress_fast_65;
+use sibling::sibling_schedule;
 use step::Regs;
 use step::five_of;
 use step::regs_of;
@@ -87,7 +87,7 @@ fn sibling_ends(s: States, w: &[u32; 80], table: &[u32], i: usize) -> Ends
 {
     let at = RECORD_WORDS * i;
     let dm = &table[at + 2..at + RECORD_WORDS];
-    let v = sibling(w, dm);
+    let v = sibling_schedule(w, dm);
     recompression_step(test_step(table[at + 1]), &v, s)
 }
 

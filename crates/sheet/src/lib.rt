@@ -3,7 +3,7 @@
 ghost use mathlib.Core.Path.{_≡_};
 ghost use denote.Ref.{ptr};
 ghost use Rattle.sheet.specs.Sheet.{recordFor, lookupRefusal, partFrom, partOf, placeIn};
-ghost use Rattle.sheet.specs.Compare.{wordBytes, comparedOf};
+ghost use Rattle.sheet.specs.Compare.{comparisonBytes, comparisonOf, comparedOf};
 use octets::same_bytes;
 use refusal::Refusal;
 use refusal::is_nothing;
@@ -34,7 +34,7 @@ pub enum Compared {
 
 // The word for an answer, with zeros behind it.
 pub fn comparison_word(answer: Comparison) -> [u8; 7]
-    ensures { λ r. ⌜ r ≡ wordBytes answer ⌝ }
+    ensures { λ r. ⌜ r ≡ comparisonBytes answer ⌝ }
 {
     match answer {
         Comparison::Match => *b"match\0\0",
@@ -102,7 +102,20 @@ pub fn lookup<'a>(sheet: &'a [u8], code: &[u8]) -> &'a [u8]
     &sheet[n..]
 }
 
-// Compares a digest with the one that the sheet has for the barcode, whatever the verdict.
+// What the part that a lookup found says of a digest, whatever the verdict: the empty part has no record behind it.
+fn compare_part(part: &[u8], verdict: Verdict, digest: [u8; DIGEST_SIZE]) -> Comparison
+    ensures { λ r. ⌜ r ≡ comparisonOf (now (part .entry)) verdict digest ⌝ }
+{
+    if part.len() == 0 {
+        return Comparison::Absent;
+    }
+    if !same_bytes(part, &digest) {
+        return Comparison::Differs;
+    }
+    Comparison::Match
+}
+
+// Compares a digest with the one that the sheet has for the barcode.
 pub fn compare(sheet: &[u8], code: &[u8], verdict: Verdict, digest: [u8; DIGEST_SIZE]) -> Compared
     ensures { λ r. ⌜ r ≡ comparedOf (now (sheet .entry)) (now (code .entry)) verdict digest ⌝ }
 {
@@ -110,12 +123,5 @@ pub fn compare(sheet: &[u8], code: &[u8], verdict: Verdict, digest: [u8; DIGEST_
     if !is_nothing(refusal) {
         return Compared::Refused(refusal);
     }
-    let part = lookup(sheet, code);
-    if part.len() == 0 {
-        return Compared::Said(Comparison::Absent);
-    }
-    if same_bytes(part, &digest) {
-        return Compared::Said(Comparison::Match);
-    }
-    Compared::Said(Comparison::Differs)
+    Compared::Said(compare_part(lookup(sheet, code), verdict, digest))
 }

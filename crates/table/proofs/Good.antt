@@ -3,33 +3,21 @@ use mathlib.Core.Path.{_≡_, sym, ap, _∙_}
 use mathlib.Core.Logic.{⊎-elim, _↔_}
 use mathlib.Core.Bool.{true, true≢false}
 use mathlib.Core.List.{List}
-use Prim.Native.Nat.{ℕ, _+_, _*_, _≤_}
+use Prim.Native.Nat.{ℕ}
 use native.Mathlib.Nat.{div-add-mod}
 use native.Mathlib.Omega.{arith}
-use lib.ListN.{length, drop, length-drop}
-use lib.Seq.{length-take-le}
+use lib.ListN.{length}
 use Rattle.refusal.specs.Refusal.{isNothing}
 use Rattle.refusal.specs.declared.Refusal.the-variants.{Nothing}
-use Rattle.table.specs.Limits.{dmWords, recordWords}
-use Rattle.table.specs.Table.{stepsBefore, testtOf, recordsIn, testWordAt, wholeRecords, tableFault}
-use Rattle.table.specs.Good.{Known, AllGood, GoodBelow, GoodRecord, GoodTable}
+use Rattle.table.specs.Limits.{recordWords}
+use Rattle.table.specs.Table.{stepsBefore, testtOf, recordsIn, wholeRecords, tableFault}
+use Rattle.table.specs.Good.{Known, GoodBelow, GoodTable}
 use Rattle.word.proofs.Tests.{unless-false}
 use Rattle.table.proofs.Faults.{whole-length, not-whole, length-fault, good-or-bad, first-bad, all-good}
 
-step-of : (x : ℕ) → Known x → stepsBefore (testtOf x) ≡ x
+-- a known test step is the number of steps before it
+pub step-of : (x : ℕ) → Known x → stepsBefore (testtOf x) ≡ x
 step-of x = ⊎-elim (λ e. rw e) (λ e. rw e)
-
-good-record : (table : List ℕ) (i : ℕ) → recordWords * i + recordWords ≤ length table → AllGood table i → GoodRecord table i
-good-record table i h f =
-    let from = drop (recordWords * i + 2) table in
-    record {
-      inside = h;
-      mask = f .0;
-      known = f .1;
-      step = step-of (testWordAt table i) (f .1);
-      size = length-take-le dmWords from (simp length-drop (omega arith));
-      rule = f .2;
-    }
 
 module _ (table : List ℕ) where
   is-whole : isNothing (tableFault table) ≡ true → wholeRecords (length table) ≡ true
@@ -50,7 +38,7 @@ module _ (table : List ℕ) where
         whole = omega arith;
         some = omega arith;
         most = omega arith;
-        each = λ i l. good-record table i (omega arith) (good-below h i l);
+        each = good-below h;
       }
 
   -- a table has no fault exactly when it is good
@@ -59,5 +47,5 @@ module _ (table : List ℕ) where
     λ e. good-table (ap isNothing e),
     λ g. all-good table (unless-false _ (λ w.
         ⊎-elim (λ e. omega arith) (⊎-elim (λ e. omega arith) (λ e. e (omega arith))) (not-whole (length table) .0 w)))
-        (λ i l. (g .each i l .mask, g .each i l .known, g .each i l .rule)),
+        (g .each),
   )

@@ -13,7 +13,7 @@ use Rattle.refusal.specs.declared.Refusal.{Refusal}
 use Rattle.refusal.specs.declared.Refusal.the-variants.{Nothing, MaskNumber, TestStep, DmRule}
 use Rattle.table.specs.Limits.{dmWords, recordWords, maskBits}
 use Rattle.table.specs.Table.{maskNumberAt, testWordAt, dmAt, obeys, recordFault}
-use Rattle.table.specs.Good.{Known, BadMask, BadStep, BadRule, AllGood}
+use Rattle.table.specs.Good.{Known, BadMask, BadStep, BadRule, GoodRecord}
 use Rattle.word.proofs.Tests.{unless-true, one-true, of-either}
 use Rattle.table.proofs.Rule.{rule-true, rule-false}
 
@@ -45,10 +45,10 @@ module _ (table : List ℕ) (i : ℕ) where
   rule-fault (m, s, r) =
       rw (lt-ltb (maskNumberAt table i) maskBits m, known-true (testWordAt table i) .1 s, rule-false (dmAt table i) .1 r)
 
-  pub no-fault : AllGood table i → recordFault table i ≡ Nothing
+  pub no-fault : GoodRecord table i → recordFault table i ≡ Nothing
   unfolding recordFault
-  no-fault (m, s, r) =
-      rw (lt-ltb (maskNumberAt table i) maskBits m, known-true (testWordAt table i) .1 s, rule-true (dmAt table i) .1 r)
+  no-fault g =
+      rw (lt-ltb (maskNumberAt table i) maskBits (g .mask), known-true (testWordAt table i) .1 (g .known), rule-true (dmAt table i) .1 (g .rule))
 
   -- what holds of each fault that a record can have holds of its fault
   pub of-each : (P : Refusal → Type 0) → P (MaskNumber i) → P (TestStep i) → P (DmRule i) → P Nothing → P (recordFault table i)
@@ -74,7 +74,7 @@ data Why (table : List ℕ) (i : ℕ) : ℕ → Type 0 where
   mask : BadMask table i → Why table i 3
   step : BadStep table i → Why table i 4
   rule : BadRule table i → Why table i 5
-  none : AllGood table i → Why table i 0
+  none : GoodRecord table i → Why table i 0
 
 module _ {table : List ℕ} {i : ℕ} where
   of-3 : Why table i 3 → BadMask table i
@@ -86,7 +86,7 @@ module _ {table : List ℕ} {i : ℕ} where
   of-5 : Why table i 5 → BadRule table i
   of-5 (rule h) = h
 
-  of-0 : Why table i 0 → AllGood table i
+  of-0 : Why table i 0 → GoodRecord table i
   of-0 (none h) = h
 
 module _ (table : List ℕ) (i : ℕ) where
@@ -102,7 +102,7 @@ module _ (table : List ℕ) (i : ℕ) where
       let h : BadRule table i = (ltb-true _ _ em, known-true _ .0 es, rule-false _ .0 er) in
       rw (rule-fault table i h) (rule h)
   why-by true true true em es er =
-      let h : AllGood table i = (ltb-true _ _ em, known-true _ .0 es, rule-true _ .0 er) in
+      let h : GoodRecord table i = record { mask = ltb-true _ _ em; known = known-true _ .0 es; rule = rule-true _ .0 er } in
       rw (no-fault table i h) (none h)
 
   why : (n : ℕ) → numberOf (recordFault table i) ≡ n → Why table i n
@@ -118,5 +118,5 @@ module _ (table : List ℕ) (i : ℕ) where
   pub is-5 : (numberOf (recordFault table i) ≡ 5) ↔ BadRule table i
   is-5 = (λ e. of-5 (why 5 e), λ h. ap numberOf (rule-fault table i h))
 
-  pub is-0 : (numberOf (recordFault table i) ≡ 0) ↔ AllGood table i
+  pub is-0 : (numberOf (recordFault table i) ≡ 0) ↔ GoodRecord table i
   is-0 = (λ e. of-0 (why 0 e), λ h. ap numberOf (no-fault table i h))

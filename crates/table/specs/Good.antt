@@ -2,11 +2,11 @@
 use mathlib.Core.Path.{_≡_}
 use mathlib.Core.Logic.{_⊎_}
 use mathlib.Core.List.{List}
-use Prim.Native.Nat.{ℕ, _+_, _*_, _%_, _≤_, _<_}
+use Prim.Native.Nat.{ℕ, _*_, _%_, _≤_, _<_}
 use lib.ListN.{length, getD}
 use Rattle.word.specs.Rule.{ruleAt}
 use Rattle.table.specs.Limits.{dmWords, recordWords, mostRecords, maskBits}
-use Rattle.table.specs.Table.{stepsBefore, testtOf, recordsIn, maskNumberAt, testWordAt, dmAt}
+use Rattle.table.specs.Table.{recordsIn, maskNumberAt, testWordAt, dmAt}
 
 -- n words can be no table: none, too many, or no whole number of records
 abbrev pub BadLength : ℕ → Type 0
@@ -37,12 +37,14 @@ abbrev pub BadRule : List ℕ → ℕ → Type 0
 BadRule table i = (maskNumberAt table i < maskBits) × Known (testWordAt table i) × Breaks (dmAt table i)
 
 -- record i's mask number, test step and difference words are good
-abbrev pub AllGood : List ℕ → ℕ → Type 0
-AllGood table i = (maskNumberAt table i < maskBits) × Known (testWordAt table i) × Obeys (dmAt table i)
+pub record GoodRecord (table : List ℕ) (i : ℕ) : Type 0 where
+  pub mask : maskNumberAt table i < maskBits
+  pub known : Known (testWordAt table i)
+  pub rule : Obeys (dmAt table i)
 
 -- each record before place i is good
 abbrev pub GoodBelow : List ℕ → ℕ → Type 0
-GoodBelow table i = (j : ℕ) → j < i → AllGood table j
+GoodBelow table i = (j : ℕ) → j < i → GoodRecord table j
 
 -- a table of a good length has its first bad record at place i, and that is bad in the way named
 pub record FirstBad (Bad : List ℕ → ℕ → Type 0) (table : List ℕ) (i : ℕ) : Type 0 where
@@ -51,18 +53,9 @@ pub record FirstBad (Bad : List ℕ → ℕ → Type 0) (table : List ℕ) (i : 
   pub before : GoodBelow table i
   pub bad : Bad table i
 
--- record i lies in the table, and all that it says is good
-pub record GoodRecord (table : List ℕ) (i : ℕ) : Type 0 where
-  pub inside : recordWords * i + recordWords ≤ length table
-  pub mask : maskNumberAt table i < maskBits
-  pub known : Known (testWordAt table i)
-  pub step : stepsBefore (testtOf (testWordAt table i)) ≡ testWordAt table i
-  pub size : length (dmAt table i) ≡ dmWords
-  pub rule : Obeys (dmAt table i)
-
 -- some whole records, not too many, each good
 pub record GoodTable (table : List ℕ) : Type 0 where
   pub whole : length table ≡ recordWords * recordsIn (length table)
   pub some : 0 < recordsIn (length table)
   pub most : recordsIn (length table) ≤ mostRecords
-  pub each : (i : ℕ) → i < recordsIn (length table) → GoodRecord table i
+  pub each : GoodBelow table (recordsIn (length table))

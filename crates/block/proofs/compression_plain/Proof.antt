@@ -1,4 +1,4 @@
--- `block::compression_plain` meets its contract: each run brings the compression on. Assumes nothing.
+-- `block::compression_plain` meets its contract: each call brings the compression on. Assumes nothing.
 use mathlib.Core.Path.{refl}
 use lib.ListN.{replicate}
 use Rattle.block.specs.Schedule.{wordsOf}
@@ -20,26 +20,26 @@ slice-aggregate-begin-2 c = search needs
 begin-requires-2 : tie.Need-begin-requires-2
 begin-requires-2 c κs = search needs
 
-run-requires : tie.Need-run-requires
-run-requires c κs = search needs
+extend-requires : tie.Need-extend-requires
+extend-requires c κs = search needs
 
-run-requires-2 : tie.Need-run-requires-2
-run-requires-2 c κs = search needs
+extend-requires-2 : tie.Need-extend-requires-2
+extend-requires-2 c κs = search needs
 
-run-requires-3 : tie.Need-run-requires-3
-run-requires-3 c κs = search needs
+extend-requires-3 : tie.Need-extend-requires-3
+extend-requires-3 c κs = search needs
 
-run-requires-4 : tie.Need-run-requires-4
-run-requires-4 c κs = search needs
+extend-requires-4 : tie.Need-extend-requires-4
+extend-requires-4 c κs = search needs
 
-run-requires-5 : tie.Need-run-requires-5
-run-requires-5 c κs = search needs
+extend-requires-5 : tie.Need-extend-requires-5
+extend-requires-5 c κs = search needs
 
-run-requires-6 : tie.Need-run-requires-6
-run-requires-6 c κs = search needs
+extend-requires-6 : tie.Need-extend-requires-6
+extend-requires-6 c κs = search needs
 
-run-requires-7 : tie.Need-run-requires-7
-run-requires-7 c κs = search needs
+extend-requires-7 : tie.Need-extend-requires-7
+extend-requires-7 c κs = search needs
 
 add-regs-requires : tie.Need-add-regs-requires
 add-regs-requires c κs = search needs
@@ -59,9 +59,9 @@ returns c =
     let h = a .h in
     let m = wordsOf (a .block .now) in
     let g16 = b2 .begin2 .ensures h (b1 .begin .ensures h (stage-start m h (replicate 80 0) refl)) in
-    let g40 = r3 .run3 .ensures m h (r2 .run2 .ensures m h (r1 .run .ensures m h g16)) in
-    let g60 = r5 .run5 .ensures m h (r4 .run4 .ensures m h g40) in
-    let g80 = c .before .run7 .ensures m h (r6 .run6 .ensures m h g60) in
+    let g40 = r3 .extend3 .ensures m h (r2 .extend2 .ensures m h (r1 .extend .ensures m h g16)) in
+    let g60 = r5 .extend5 .ensures m h (r4 .extend4 .ensures m h g40) in
+    let g80 = c .before .extend7 .ensures m h (r6 .extend6 .ensures m h g60) in
     rw (c .add-regs .ensures, g80 .regs)
 
 pub compression-plain-spec : {M : Type 1} → statement M
@@ -72,12 +72,12 @@ compression-plain-spec =
     begin-requires
     slice-aggregate-begin-2
     begin-requires-2
-    run-requires
-    run-requires-2
-    run-requires-3
-    run-requires-4
-    run-requires-5
-    run-requires-6
-    run-requires-7
+    extend-requires
+    extend-requires-2
+    extend-requires-3
+    extend-requires-4
+    extend-requires-5
+    extend-requires-6
+    extend-requires-7
     add-regs-requires
     returns)

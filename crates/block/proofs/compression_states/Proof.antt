@@ -9,23 +9,23 @@ use Rattle.block.proofs.compression_states.Tie as tie
 first-forty-requires : tie.Need-first-forty-requires
 first-forty-requires c κs = search needs
 
-run-requires : tie.Need-run-requires
-run-requires c κs = search needs
+extend-requires : tie.Need-extend-requires
+extend-requires c κs = search needs
 
-run-requires-2 : tie.Need-run-requires-2
-run-requires-2 c κs = search needs
+extend-requires-2 : tie.Need-extend-requires-2
+extend-requires-2 c κs = search needs
 
-run-requires-3 : tie.Need-run-requires-3
-run-requires-3 c κs = search needs
+extend-requires-3 : tie.Need-extend-requires-3
+extend-requires-3 c κs = search needs
 
-run-requires-4 : tie.Need-run-requires-4
-run-requires-4 c κs = search needs
+extend-requires-4 : tie.Need-extend-requires-4
+extend-requires-4 c κs = search needs
 
-run-requires-5 : tie.Need-run-requires-5
-run-requires-5 c κs = search needs
+extend-requires-5 : tie.Need-extend-requires-5
+extend-requires-5 c κs = search needs
 
-run-requires-6 : tie.Need-run-requires-6
-run-requires-6 c κs = search needs
+extend-requires-6 : tie.Need-extend-requires-6
+extend-requires-6 c κs = search needs
 
 add-regs-requires : tie.Need-add-regs-requires
 add-regs-requires c κs = search needs
@@ -41,9 +41,9 @@ returns c =
     let f = r1 .before .before in
     let h = f .before .before .before .args .h in
     let m = wordsOf (f .before .before .before .args .block .now) in
-    let g58 = r2 .run2 .ensures m h (r1 .run .ensures m h (f .first-forty .ensures)) in
-    let g65 = r4 .run4 .ensures m h (r3 .run3 .ensures m h g58) in
-    let g80 = c .before .run6 .ensures m h (r5 .run5 .ensures m h g65) in
+    let g58 = r2 .extend2 .ensures m h (r1 .extend .ensures m h (f .first-forty .ensures)) in
+    let g65 = r4 .extend4 .ensures m h (r3 .extend3 .ensures m h g58) in
+    let g80 = c .before .extend6 .ensures m h (r5 .extend5 .ensures m h g65) in
     (stage-end m h _ _ g80, rw (g58 .regs, g65 .regs, c .add-regs .ensures, g80 .regs))
 
 pub compression-states-spec : {M : Type 1} → statement M
@@ -51,11 +51,11 @@ compression-states-spec =
     tie.close
     (tie.spec
     first-forty-requires
-    run-requires
-    run-requires-2
-    run-requires-3
-    run-requires-4
-    run-requires-5
-    run-requires-6
+    extend-requires
+    extend-requires-2
+    extend-requires-3
+    extend-requires-4
+    extend-requires-5
+    extend-requires-6
     add-regs-requires
     returns)

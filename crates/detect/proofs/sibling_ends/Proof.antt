@@ -7,7 +7,7 @@ use Rattle.detect.proofs.sibling_ends.Statement.{statement}
 use Rattle.detect.proofs.sibling_ends.Tie as tie
 use Rattle.detect.proofs.sibling_ends.Reads as reads
 use Rattle.detect.proofs.sibling_ends.Lts as lts
-use Rattle.block.proofs.sibling.Reads as sibling-reads
+use Rattle.sibling.proofs.sibling_schedule.Reads as sibling-schedule-reads
 use Rattle.detect.proofs.recompression_step.Reads as recompression-step-reads
 use Rattle.table.proofs.test_step.Reads as test-step-reads
 
@@ -40,8 +40,8 @@ part-dm-end : tie.Need-part-dm-end
 part-dm-end c = search needs
 
 -- src/lib.rt:90:13
-sibling-requires : tie.Need-sibling-requires
-sibling-requires c κs = search needs
+sibling-schedule-requires : tie.Need-sibling-schedule-requires
+sibling-schedule-requires c κs = search needs
 
 -- src/lib.rt:91:40
 add-test-step : tie.Need-add-test-step
@@ -70,7 +70,7 @@ returns c =
     let b = t .before .before in
     let a = b .before .before .before .args in
     let n : recordWords * (a .i) + recordWords - (recordWords * (a .i) + 2) ≡ dmWords = omega arith in
-    rw (c .recompression-step .ensures, t .test-step .ensures, b .sibling .ensures, n)
+    rw (c .recompression-step .ensures, t .test-step .ensures, b .sibling-schedule .ensures, n)
 
 pub sibling-ends-spec : {M : Type 1} → statement M
 sibling-ends-spec =
@@ -83,7 +83,7 @@ sibling-ends-spec =
     sub-dm
     part-dm-start
     part-dm-end
-    sibling-requires
+    sibling-schedule-requires
     add-test-step
     mul-test-step
     shared-slice-read-test-step

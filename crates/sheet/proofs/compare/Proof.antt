@@ -1,11 +1,9 @@
 -- `sheet::compare` meets its contract. Assumes nothing.
-use mathlib.Core.Path.{_≡_}
+use mathlib.Core.Path.{_∙_}
 use borrow.Author.Needs.{needs}
-use Rattle.word.specs.Choice.{pick}
+use borrow.Author.Tests.{not-true, not-false}
 use Rattle.sheet.specs.Compare.{comparedOf}
-use Rattle.sheet.specs.declared.Comparison.the-variants.{Match, Differs}
-use Rattle.sheet.specs.declared.Compared.the-variants.{Said}
-use Rattle.sheet.proofs.Answers.{refused, absent, said}
+use Rattle.sheet.proofs.Parts.{tested}
 use Rattle.sheet.proofs.compare.Statement.{statement}
 use Rattle.sheet.proofs.compare.Tie as tie
 
@@ -16,45 +14,25 @@ is-nothing-requires : tie.Need-is-nothing-requires
 is-nothing-requires c κs = search needs
 
 returns : tie.Need-returns
+unfolding comparedOf
 returns c =
-    let r = c .before in
-    let a = r .before .before .before .before .args in
-    refused (a .sheet .now) (a .code .now) (a .verdict) (a .t4) (r .before .lookup-refusal .ensures) (r .is-nothing .ensures)
-    (c .if1 .taken)
+    let n = c .before in
+    let a = n .before .before .before .before .args in
+    rw (tested (a .sheet .now) (a .code .now) (n .before .lookup-refusal .ensures) (n .is-nothing .ensures) ∙ not-true _ (c .if1 .taken), n .before .lookup-refusal .ensures)
 
 lookup-requires : tie.Need-lookup-requires
 lookup-requires c κs = search needs
 
+compare-part-requires : tie.Need-compare-part-requires
+compare-part-requires c κs = search needs
+
 returns-2 : tie.Need-returns-2
+unfolding comparedOf
 returns-2 c =
     let l = c .before in
-    let r = l .before .before in
-    let a = r .before .before .before .before .args in
-    absent (a .sheet .now) (a .code .now) (a .verdict) (a .t4) (r .before .lookup-refusal .ensures) (r .is-nothing .ensures)
-    (l .before .if1 .left) (l .lookup .ensures .0) (c .if2 .taken)
-
-slice-aggregate-same-bytes : tie.Need-slice-aggregate-same-bytes
-slice-aggregate-same-bytes c = search needs
-
-same-bytes-requires : tie.Need-same-bytes-requires
-same-bytes-requires c κs = search needs
-
--- the answer by whether the part is the digest
-answer : (c : tie.After-same-bytes)
-    → let a = c .before .before .before .before .before .before .before .before .before .args in
-    Said (pick (c .same-bytes .result) Match Differs) ≡ comparedOf (a .sheet .now) (a .code .now) (a .verdict) (a .t4)
-answer c =
-    let l = c .before .before .before in
-    let r = l .before .before in
-    let a = r .before .before .before .before .args in
-    said (a .sheet .now) (a .code .now) (a .verdict) (a .t4) (r .before .lookup-refusal .ensures) (r .is-nothing .ensures)
-    (l .before .if1 .left) (l .lookup .ensures .0) (c .before .before .if2 .left) (c .same-bytes .ensures)
-
-returns-3 : tie.Need-returns-3
-returns-3 c = rw (c .if3 .taken) at (answer (c .before))
-
-returns-4 : tie.Need-returns-4
-returns-4 c = rw (c .if3 .left) at (answer (c .before))
+    let n = l .before .before in
+    let a = n .before .before .before .before .args in
+    rw (tested (a .sheet .now) (a .code .now) (n .before .lookup-refusal .ensures) (n .is-nothing .ensures) ∙ not-false _ (l .before .if1 .left), c .compare-part .ensures, l .lookup .ensures .0)
 
 pub compare-spec : {M : Type 1} → statement M
 compare-spec =
@@ -64,8 +42,5 @@ compare-spec =
     is-nothing-requires
     returns
     lookup-requires
-    returns-2
-    slice-aggregate-same-bytes
-    same-bytes-requires
-    returns-3
-    returns-4)
+    compare-part-requires
+    returns-2)

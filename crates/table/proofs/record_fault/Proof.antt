@@ -84,7 +84,7 @@ returns-3 c =
 returns-4 : tie.Need-returns-4
 returns-4 c =
     let a = start (c .before) .args in
-    sym (no-fault (a .table .now) (a .i) (search needs, step-known (c .before), rule-true _ .0 (rule-seen (c .before) ∙ not-false _ (c .if3 .left))))
+    sym (no-fault (a .table .now) (a .i) (record { mask = search needs; known = step-known (c .before); rule = rule-true _ .0 (rule-seen (c .before) ∙ not-false _ (c .if3 .left)) }))
 
 pub record-fault-spec : {M : Type 1} → statement M
 record-fault-spec =

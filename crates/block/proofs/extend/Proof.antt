@@ -1,12 +1,12 @@
--- `block::run` meets its contract. The invariant: every compression has been brought from step `from` to step t. Assumes nothing.
+-- `block::extend` meets its contract. The invariant: every compression has been brought from step `from` to step t. Assumes nothing.
 use mathlib.Core.Path.{_≡_}
 use mathlib.Core.List.{List}
 use Prim.Native.Nat.{ℕ, _-_, _≤_}
 use borrow.Author.Needs.{needs}
 use Rattle.block.specs.Stage.{Onward}
 use Rattle.block.proofs.Stages.{stage-rule}
-use Rattle.block.proofs.run.Statement.{statement}
-use Rattle.block.proofs.run.Tie as tie
+use Rattle.block.proofs.extend.Statement.{statement}
+use Rattle.block.proofs.extend.Tie as tie
 
 abbrev Inv-loop : tie.InvT-loop
 Inv-loop from to w₀ s₀ t₀ w s t = (16 ≤ t) × (t ≤ to) × ((m : List ℕ) → Onward m from t w₀ s₀ w s)
@@ -87,8 +87,8 @@ returns c =
     let e : c .before .loop .t ≡ c .before .before .args .to = search needs in
     rw (← e) (c .before .loop .inv .2)
 
-pub run-spec : {M : Type 1} → statement M
-run-spec =
+pub extend-spec : {M : Type 1} → statement M
+extend-spec =
     tie.close
     (tie.spec
     Inv-loop

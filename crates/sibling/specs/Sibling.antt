@@ -4,8 +4,8 @@ use Prim.Native.Nat.{ℕ}
 use Rattle.word.specs.Lists.{xorWords}
 use Rattle.step.specs.Step.{undosOf}
 use Rattle.step.specs.declared.Regs.{Regs}
 use Rattle.block.specs.Compress.{overSchedule}
-use Rattle.block.specs.declared.Ends.{Ends}
+use Rattle.sibling.specs.declared.Ends.{Ends}
 
 -- the sibling's schedule: the block's, `xor` the vector's difference words
 abbrev pub siblingSchedule : List ℕ → List ℕ → List ℕ

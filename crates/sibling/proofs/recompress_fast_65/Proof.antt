@@ -1,11 +1,11 @@
--- `block::recompress_fast_65` meets its contract. Assumes nothing.
+-- `sibling::recompress_fast_65` meets its contract. Assumes nothing.
 use native.Mathlib.Omega.{arith}
 use borrow.Author.Needs.{needs}
 use Rattle.step.specs.Step.{undosOf}
 use Rattle.step.proofs.Runs.{undos-add}
-use Rattle.block.proofs.Back.{recompress-by}
-use Rattle.block.proofs.recompress_fast_65.Statement.{statement}
-use Rattle.block.proofs.recompress_fast_65.Tie as tie
+use Rattle.sibling.proofs.Back.{recompress-by}
+use Rattle.sibling.proofs.recompress_fast_65.Statement.{statement}
+use Rattle.sibling.proofs.recompress_fast_65.Tie as tie
 
 undos-requires : tie.Need-undos-requires
 undos-requires c κs = search needs

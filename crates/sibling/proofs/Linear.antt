@@ -1,51 +1,20 @@
--- The sixteen words of a block of bytes are words, and the sibling's schedule is the schedule of the sibling's sixteen words,
--- since the rule is linear. Assumes nothing.
+-- The sibling's schedule is the schedule of the sibling's sixteen words, since the rule is linear. Assumes nothing.
 use mathlib.Core.Logic.{⊎-elim}
 use mathlib.Core.Path.{_≡_, refl, sym, ap, ap₂, _∙_}
 use mathlib.Core.List.{List, [], _∷_, _++_}
-use Prim.Native.Nat.{ℕ, zero, suc, _+_, _-_, _*_, _^_, _≤_, _<_}
+use Prim.Native.Nat.{ℕ, zero, suc, _-_, _≤_, _<_}
 use native.Mathlib.Nat.{eq-zero-or-pos}
 use native.Mathlib.Omega.{arith}
 use lib.Bits.{bitXor}
-use lib.Dec.{ltb}
-use lib.ListN.{length, getD}
-use lib.Pow.{pow-pos}
+use lib.ListN.{getD}
 use Rattle.word.specs.Lists.{listOf, xorWords, AllWords}
 use Rattle.word.specs.Rule.{ruleAt}
-use Rattle.word.proofs.Tests.{of-either}
-use Rattle.word.proofs.Xor.{rule-lt, rule-xor}
-use Rattle.block.specs.Schedule.{wordsOf, scheduled, scheduleOf}
-use Rattle.octets.specs.Octets.{be32At}
-use Rattle.block.specs.Sibling.{siblingSchedule}
+use Rattle.word.proofs.Xor.{rule-xor}
 use Rattle.word.proofs.Fill.{list-at}
+use Rattle.block.specs.Schedule.{scheduled, scheduleOf}
 use Rattle.block.proofs.Growth.{word, schedule-list, schedule-at, word-given, word-ruled, schedule-ruled}
-
--- one word more
-words-snoc : (w : List ℕ) (x : ℕ) → AllWords w → x < 2 ^ 32 → AllWords (w ++ (x ∷ []))
-words-snoc [] x h l zero = l
-words-snoc [] x h l (suc i) = pow-pos 32
-words-snoc (y ∷ w) x h l zero = h zero
-words-snoc (y ∷ w) x h l (suc i) = words-snoc w x (λ j. h (suc j)) l i
-
-list-words : (f : ℕ → ℕ) (n : ℕ) → ((i : ℕ) → f i < 2 ^ 32) → AllWords (listOf f n)
-unfolding listOf
-list-words f zero h = λ i. pow-pos 32
-list-words f (suc n) h = words-snoc (listOf f n) (f n) (list-words f n h) (h n)
-
--- the sixteen words of a block of bytes
-pub words-words : (block : List ℕ) → ((i : ℕ) → getD block i 0 < 256) → AllWords (wordsOf block)
-words-words block h =
-    list-words (be32At block) 16 (λ i. omega (arith, h (4 * i), h (4 * i + 1), h (4 * i + 2), h (4 * i + 3)))
-
--- every element of a schedule of words
-schedule-words : (m : List ℕ) → AllWords m → (n : ℕ) → AllWords (scheduled m n)
-unfolding scheduled
-schedule-words m h zero = λ i. pow-pos 32
-schedule-words m h (suc n) =
-    let w = scheduled m n in
-    let g = schedule-words m h n in
-    let t = length w in
-    words-snoc w _ g (of-either (λ (x : ℕ). x < 2 ^ 32) (ltb t 16) _ _ (h t) (rule-lt _ _ _ _ (g (t - 3)) (g (t - 8)) (g (t - 14)) (g (t - 16))))
+use Rattle.block.proofs.Bounds.{schedule-words}
+use Rattle.sibling.specs.Sibling.{siblingSchedule}
 
 -- where the difference words obey the rule, the sibling has the schedule of a block
 module _ (m dm : List ℕ) (hm : AllWords m) (hd : AllWords dm) (obeys : (t : ℕ) → 16 ≤ t → t < 80 → getD dm t 0 ≡ ruleAt dm t) where

@@ -7,9 +7,9 @@ use native.Mathlib.Omega.{arith}
 use Rattle.step.specs.Step.{stepsOf, undosOf, addRegs, Words}
 use Rattle.step.specs.declared.Regs.{Regs}
 use Rattle.step.proofs.Runs.{steps-add, steps-undos}
 use Rattle.block.specs.Compress.{overSchedule}
-use Rattle.block.specs.Sibling.{recompressed}
-use Rattle.block.specs.declared.Ends.{Ends}
+use Rattle.sibling.specs.Sibling.{recompressed}
+use Rattle.sibling.specs.declared.Ends.{Ends}
 
 module _ (w : List ℕ) (n : ℕ) (s : Regs) (h : n ≤ 80) (ws : Words s) where
   -- all eighty steps from the start are those that are left from s

@@ -1,12 +1,12 @@
--- `block::sibling` meets its contract. Assumes nothing.
+-- `sibling::sibling_schedule` meets its contract. Assumes nothing.
 use mathlib.Core.Path.{refl}
 use Prim.Native.Nat.{_-_}
 use lib.Bits.{bitXor}
 use lib.ListN.{getD}
 use borrow.Author.Needs.{needs}
 use Rattle.word.proofs.Fill.{Filled, fill-none, fill-more, fill-all}
-use Rattle.block.proofs.sibling.Statement.{statement}
-use Rattle.block.proofs.sibling.Tie as tie
+use Rattle.sibling.proofs.sibling_schedule.Statement.{statement}
+use Rattle.sibling.proofs.sibling_schedule.Tie as tie
 
 abbrev Inv-loop : tie.InvT-loop
 Inv-loop w dm v₀ t₀ v t = Filled (λ i. bitXor (getD w i 0) (getD dm i 0)) 80 v t
@@ -49,8 +49,8 @@ loop-again c =
 returns : tie.Need-returns Inv-loop μ-loop
 returns c = fill-all _ 80 (c .before .loop .v) (c .before .loop .t) (c .before .loop .inv) (search needs)
 
-pub sibling-spec : {M : Type 1} → statement M
-sibling-spec =
+pub sibling-schedule-spec : {M : Type 1} → statement M
+sibling-schedule-spec =
     tie.close
     (tie.spec
     Inv-loop

@@ -12,9 +12,6 @@ use octets::bytes_64;
 use octets::store;
 use step::Regs;
 
-// The longest message, in bytes.
-pub const MOST_BYTES: u64 = 0x1FFFFFFFFFFFFFFF;
-
 pub const SHA1_PADDING: [u8; 64] = [
     0x80,
     0,

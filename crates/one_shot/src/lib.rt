@@ -5,7 +5,6 @@ ghost use Rattle.stream.specs.Loan.{loanOf};
 ghost use Rattle.one_shot.specs.Whole.{wholeRefusal, wholeOf, digested};
 use finish::Outcome;
 use finish::last_chain;
-use fips::MOST_BYTES;
 use fips::digest;
 use fips::tail_blocks;
 use flags::Flags;
@@ -14,6 +13,7 @@ use refusal::Refusal;
 use refusal::is_nothing;
 use stream::loan_refusal;
 use stream::masks_from;
+use update::MOST_BYTES;
 use update::absorb;
 use verdict::verdict_of;
 

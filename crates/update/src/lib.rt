@@ -5,7 +5,6 @@ ghost use lib.ListN.{length};
 ghost use Rattle.stream.specs.Loan.{loanOf};
 ghost use Rattle.update.specs.Update.{updateRefusal, advanced, absorbed, updated};
 ghost use Rattle.update.specs.Ready.{Ready};
-use fips::MOST_BYTES;
 use flags::Flags;
 use hasher::Hasher;
 use hasher::Updated;
@@ -17,6 +16,9 @@ use stream::Chain;
 use stream::fold_blocks;
 use stream::loan_refusal;
 use stream::masks_from;
+
+// The longest message, in bytes.
+pub const MOST_BYTES: u64 = 0x1FFFFFFFFFFFFFFF;
 
 // What an update refuses.
 fn update_refusal(h: Hasher, bytes: &[u8], table: &[u32], masks: &[u32]) -> Refusal

@@ -6,8 +6,9 @@ ghost use Rattle.refusal.specs.Refusal.{numberOf};
 ghost use Rattle.verdict.specs.Verdict.{digestSize};
 ghost use Rattle.finish.specs.Finish.{outcomeRefusal};
 ghost use Rattle.sheet.specs.Compare.{comparedNumber};
-ghost use Rattle.answers.specs.Answers.{left, answerPair, verdictIn, outcomeAnswer, comparisonIn, blockLeft, updatedLeft, digestLeft, comparedLeft};
+ghost use Rattle.answers.specs.Answers.{left, answerPair, verdictIn, outcomeAnswer, comparisonIn, blockLeft, updatedLeft, digestLeft, finishResetLeft, comparedLeft};
 use detect::OneBlock;
+use finish::Closed;
 use finish::Outcome;
 use hasher::Updated;
 use layout::DIGEST_SIZE;
@@ -128,6 +129,24 @@ pub fn leave_digest(digest: &mut [u8], answer: &mut [u64], d: [u8; DIGEST_SIZE],
 {
     put_digest(digest, d);
     put_outcome(answer, o)
+}
+
+// What a finish-and-reset leaves: the hasher and an answer, around the output that it wrote before.
+pub fn leave_finish_reset(
+    words: &mut [u32],
+    pending: &mut [u8],
+    state: &mut [u64],
+    out: &[u8],
+    answer: &mut [u64],
+    c: Closed,
+) -> u32
+    requires { ⌜ ((length (now words) ≡ 5) × (length (now pending) ≡ 64) × (length (now state) ≡ 4)) × (length (now answer) ≡ 2) ⌝ }
+    ensures { λ r. ⌜ left r (now (words .exit) ∷ now (pending .exit) ∷ now (state .exit) ∷ now (out .entry) ∷ now (answer .exit) ∷ []) ≡ finishResetLeft c (now (out .entry)) ⌝ }
+{
+    let h = c.hasher;
+    let outcome = c.outcome;
+    put_hasher(words, pending, state, h);
+    put_outcome(answer, outcome)
 }
 
 // What a comparison leaves: its answer's number, and 0 where other calls have a place.

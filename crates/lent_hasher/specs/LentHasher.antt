@@ -7,7 +7,6 @@ use lib.ListN.{length}
 use Rattle.verdict.specs.Verdict.{digestSize}
 use Rattle.hasher.specs.Hasher.{updated, resetOf}
 use Rattle.finish.specs.Finish.{finished, closed, writtenOut}
-use Rattle.finish.specs.declared.Finished.{Finished}
 use Rattle.layout.specs.Layout.{hasherIn, hasherFits}
 use Rattle.answers.specs.Answers.{Left, guarded, updatedLeft, digestLeft, finishResetLeft}
 

@@ -5,8 +5,8 @@ ghost use Rattle.answers.specs.Answers.{left};
 ghost use Rattle.lent_hasher.specs.LentHasher.{updateCall, resetCall, finishCall, finishResetCall};
 use answers::BROKEN_AGREEMENT;
 use answers::leave_digest;
+use answers::leave_finish_reset;
 use answers::leave_updated;
-use answers::put_outcome;
 use finish::finish;
 use finish::finish_and_reset;
 use hasher::reset;
@@ -14,7 +14,6 @@ use hasher::update;
 use layout::digest_fits;
 use layout::hasher_fits;
 use layout::hasher_in;
-use layout::put_hasher;
 
 pub fn update_lent(
     words: &mut [u32],
@@ -90,8 +89,5 @@ pub fn finish_and_reset_lent(
         return BROKEN_AGREEMENT;
     }
     let c = finish_and_reset(hasher_in(words, pending, state), out, table, masks);
-    let h = c.hasher;
-    let outcome = c.outcome;
-    put_hasher(words, pending, state, h);
-    put_outcome(answer, outcome)
+    leave_finish_reset(words, pending, state, out, answer, c)
 }

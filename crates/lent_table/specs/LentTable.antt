@@ -9,7 +9,6 @@ use Rattle.table.specs.Table.{tableFault}
 use Rattle.detect.specs.Detect.{oneBlockOf}
 use Rattle.detect.specs.declared.Mode.{Mode}
 use Rattle.finish.specs.Finish.{digested}
-use Rattle.finish.specs.declared.Digested.{Digested}
 use Rattle.answers.specs.Answers.{Left, guarded, blockLeft, digestLeft, refusalLeft}
 
 -- the call of one block

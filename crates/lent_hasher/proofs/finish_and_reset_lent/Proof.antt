@@ -26,17 +26,11 @@ hasher-in-requires c κs =
 finish-and-reset-requires : tie.Need-finish-and-reset-requires
 finish-and-reset-requires c κs = search needs
 
-put-hasher-requires : tie.Need-put-hasher-requires
-put-hasher-requires c κs =
-    let g = c .before .before .before .before .before .before .before .before .before .before .before .before in
+leave-finish-reset-requires : tie.Need-leave-finish-reset-requires
+leave-finish-reset-requires c κs =
+    let g = c .before .before .before .before .before .before .before .before .before .before .before .before .before in
     let a = g .before .before .before .before .before .before .before .before .before .before .args in
-    lengths (length (a .words .now)) (length (a .pending .now)) (a .state .now) (length (a .answer .now)) (g .before .hasher-fits .ensures) (g .if1 .left) .0
-
-put-outcome-requires : tie.Need-put-outcome-requires
-put-outcome-requires c κs =
-    let g = c .before .before .before .before .before .before .before .before .before .before .before .before .before .before .before .before .before .before .before .before in
-    let a = g .before .before .before .before .before .before .before .before .before .before .args in
-    lengths (length (a .words .now)) (length (a .pending .now)) (a .state .now) (length (a .answer .now)) (g .before .hasher-fits .ensures) (g .if1 .left) .1
+    lengths (length (a .words .now)) (length (a .pending .now)) (a .state .now) (length (a .answer .now)) (g .before .hasher-fits .ensures) (g .if1 .left)
 
 same-length-2 : tie.Need-same-length-2
 same-length-2 c = search needs
@@ -56,22 +50,12 @@ same-length-6 c = search needs
 returns-2 : tie.Need-returns-2
 unfolding finishResetCall
 returns-2 c =
-    let o = c .before .before in
-    let p = o .before .before .before .before .before .before .before .before in
-    let f = p .before .before .before .before .before .before .before in
+    let l = c .before .before .before .before .before .before .before .before in
+    let f = l .before .before .before .before .before .before .before .before in
     let h = f .before .before in
     let g = h .before .before .before .before in
     done (g .before .hasher-fits .ensures) (g .if1 .left)
-    (rw (
-      o .put-outcome .ensures .0,
-      o .put-outcome .ensures .1,
-      p .put-hasher .ensures .0,
-      p .put-hasher .ensures .1,
-      p .put-hasher .ensures .2,
-      f .finish-and-reset .ensures .0,
-      f .finish-and-reset .ensures .1,
-      h .hasher-in .ensures,
-    )) _
+    (rw (l .leave-finish-reset .ensures, f .finish-and-reset .ensures .0, f .finish-and-reset .ensures .1, h .hasher-in .ensures)) _
 
 pub finish-and-reset-lent-spec : {M : Type 1} → statement M
 finish-and-reset-lent-spec =
@@ -82,8 +66,7 @@ finish-and-reset-lent-spec =
     returns
     hasher-in-requires
     finish-and-reset-requires
-    put-hasher-requires
-    put-outcome-requires
+    leave-finish-reset-requires
     same-length-2
     same-length-3
     same-length-4

@@ -1,5 +1,4 @@
 -- `lent_sheet::compare_lent` meets its contract. Assumes nothing.
-use mathlib.Core.Bool.{_&&_}
 use lib.Dec.{eqb}
 use lib.ListN.{length}
 use borrow.Author.Tests.{eqb-true}

@@ -1,0 +1,86 @@
+-- What a call answers: its number, and what it leaves in the slices that it may write.
+use mathlib.Core.Bool.{Bool}
+use mathlib.Core.List.{List, [], _∷_, _++_}
+use Prim.Native.Nat.{ℕ}
+use Rattle.word.specs.Choice.{pick}
+use Rattle.refusal.specs.Refusal.{numberOf, placeOf}
+use Rattle.refusal.specs.declared.Refusal.{Refusal}
+use Rattle.detect.specs.declared.OneBlock.{OneBlock}
+use Rattle.hasher.specs.declared.Updated.{Updated}
+use Rattle.finish.specs.Finish.{outcomeRefusal}
+use Rattle.finish.specs.declared.Outcome.{Outcome}
+use Rattle.finish.specs.declared.Outcome.the-variants.{Done, Refused}
+use Rattle.finish.specs.declared.Closed.{Closed}
+use Rattle.sheet.specs.Compare.{comparedNumber}
+use Rattle.sheet.specs.declared.Comparison.the-variants.{Match, Differs, Absent}
+use Rattle.sheet.specs.declared.Compared.{Compared}
+use Rattle.sheet.specs.declared.Compared.the-variants.{Said}
+use Rattle.layout.specs.Layout.{bitOf, slicesOf, verdictNumber}
+
+-- the number that a call gives back, and the contents of the slices that it may write, in the order of its parameters
+pub record Left : Type 0 where
+  pub number : ℕ
+  pub slices : List (List ℕ)
+
+-- what a call leaves, from its number and its slices
+abbrev pub left : ℕ → List (List ℕ) → Left
+left n s = record { number = n; slices = s }
+
+-- the number where a caller breaks the agreement of the header: a fixed length, a mark, flags or a verdict
+abbrev pub brokenAgreement : ℕ
+brokenAgreement = 255
+
+-- what a call leaves, if the agreement is kept; else it leaves all slices as they were
+abbrev pub guarded : Bool → Left → List (List ℕ) → Left
+guarded kept done before = pick kept done (left brokenAgreement before)
+
+-- the two numbers of an answer: what the call says, and the place of the refused record
+abbrev pub answerPair : ℕ → Refusal → List ℕ
+answerPair says r = says ∷ placeOf r ∷ []
+
+-- the verdict's number, 0 on a refusal
+abbrev pub verdictIn : Outcome → ℕ
+verdictIn (Done v) = verdictNumber v
+verdictIn (Refused r) = 0
+
+-- the two numbers of an outcome's answer
+abbrev pub outcomeAnswer : Outcome → List ℕ
+outcomeAnswer o = answerPair (verdictIn o) (outcomeRefusal o)
+
+-- the number of a comparison's answer, 0 on a refusal
+abbrev pub comparisonIn : Compared → ℕ
+comparisonIn (Said Match) = 1
+comparisonIn (Said Differs) = 2
+comparisonIn (Said Absent) = 3
+comparisonIn (Compared.Refused r) = 0
+
+-- what one block leaves: the new words; mark, place, tried and the refused record's place
+abbrev pub blockLeft : OneBlock → Left
+blockLeft o =
+    left (numberOf (o .refusal))
+    (o .words ∷ (bitOf (o .found .mark) ∷ o .found .place ∷ o .found .tried ∷ placeOf (o .refusal) ∷ []) ∷ [])
+
+-- what an update or a reset leaves: the hasher, and the refused record's place
+abbrev pub updatedLeft : Updated → Left
+updatedLeft u = left (numberOf (u .refusal)) (slicesOf (u .hasher) ++ answerPair 0 (u .refusal) ∷ [])
+
+-- what a digest's call leaves: the digest, and the outcome
+abbrev pub digestLeft : Outcome → List ℕ → Left
+digestLeft o digest = left (numberOf (outcomeRefusal o)) (digest ∷ outcomeAnswer o ∷ [])
+
+-- what a finish-and-reset leaves, of a hasher and an outcome, around the output that it wrote
+abbrev pub finishResetLeft : Closed → List ℕ → Left
+finishResetLeft c out =
+    left (numberOf (outcomeRefusal (c .outcome))) (slicesOf (c .hasher) ++ out ∷ outcomeAnswer (c .outcome) ∷ [])
+
+-- what a call leaves that says a refusal alone
+abbrev pub refusalLeft : Refusal → Left
+refusalLeft r = left (numberOf r) (answerPair 0 r ∷ [])
+
+-- what a lookup leaves: where the part begins, and its length
+abbrev pub partLeft : Refusal → ℕ → ℕ → Left
+partLeft r from size = left (numberOf r) ((from ∷ size ∷ []) ∷ [])
+
+-- what a comparison leaves
+abbrev pub comparedLeft : Compared → Left
+comparedLeft c = left (comparedNumber c) ((comparisonIn c ∷ 0 ∷ []) ∷ [])

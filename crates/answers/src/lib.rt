@@ -1,0 +1,159 @@
+// What a call answers: its number, and what it leaves in the slices that it may write.
+ghost use mathlib.Core.Path.{_≡_};
+ghost use mathlib.Core.List.{[], _∷_};
+ghost use lib.ListN.{length};
+ghost use Rattle.refusal.specs.Refusal.{numberOf};
+ghost use Rattle.verdict.specs.Verdict.{digestSize};
+ghost use Rattle.finish.specs.Finish.{outcomeRefusal};
+ghost use Rattle.sheet.specs.Compare.{comparedNumber};
+ghost use Rattle.answers.specs.Answers.{left, answerPair, verdictIn, outcomeAnswer, comparisonIn, blockLeft, updatedLeft, digestLeft, finishResetLeft, comparedLeft};
+use detect::OneBlock;
+use finish::Closed;
+use finish::Outcome;
+use hasher::Updated;
+use layout::DIGEST_SIZE;
+use layout::bit_of;
+use layout::put_digest;
+use layout::put_four;
+use layout::put_hasher;
+use layout::put_two;
+use layout::put_words;
+use layout::verdict_number;
+use refusal::Refusal;
+use refusal::number;
+use refusal::place;
+use sheet::Compared;
+use sheet::Comparison;
+
+// The number where a caller breaks the header's agreement on lengths, marks, flags and verdicts: no other number is
+// above 16. A call then changes nothing.
+pub const BROKEN_AGREEMENT: u32 = 255;
+
+fn refusal_in(o: Outcome) -> Refusal
+    ensures { λ r. ⌜ r ≡ outcomeRefusal o ⌝ }
+{
+    match o {
+        Outcome::Done(_) => Refusal::Nothing,
+        Outcome::Refused(r) => r,
+    }
+}
+
+fn verdict_in(o: Outcome) -> u64
+    ensures { λ r. ⌜ r ≡ verdictIn o ⌝ }
+{
+    match o {
+        Outcome::Done(v) => verdict_number(v),
+        Outcome::Refused(_) => 0,
+    }
+}
+
+fn comparison_in(c: Compared) -> u64
+    ensures { λ r. ⌜ r ≡ comparisonIn c ⌝ }
+{
+    match c {
+        Compared::Said(a) => match a {
+            Comparison::Match => 1,
+            Comparison::Differs => 2,
+            Comparison::Absent => 3,
+        },
+        Compared::Refused(_) => 0,
+    }
+}
+
+fn compared_number(c: Compared) -> u32
+    ensures { λ r. ⌜ r ≡ comparedNumber c ⌝ }
+{
+    match c {
+        Compared::Said(_) => 0,
+        Compared::Refused(r) => number(r),
+    }
+}
+
+// Two numbers into an answer: what the call says, and the place of the refused record. The refusal's number comes back.
+pub fn say(answer: &mut [u64], says: u64, r: Refusal) -> u32
+    requires { ⌜ length (now answer) ≡ 2 ⌝ }
+    ensures { λ n. ⌜ (n ≡ numberOf r) × (now (answer .exit) ≡ answerPair says r) ⌝ }
+{
+    put_two(answer, says, place(r) as u64);
+    number(r)
+}
+
+// A verdict or a refusal into an answer.
+pub fn put_outcome(answer: &mut [u64], o: Outcome) -> u32
+    requires { ⌜ length (now answer) ≡ 2 ⌝ }
+    ensures { λ n. ⌜ (n ≡ numberOf (outcomeRefusal o)) × (now (answer .exit) ≡ outcomeAnswer o) ⌝ }
+{
+    say(answer, verdict_in(o), refusal_in(o))
+}
+
+// What one block leaves: the new words; its mark, place, tried and the refused record's place.
+pub fn leave_block(after: &mut [u32], answer: &mut [u64], o: OneBlock) -> u32
+    requires { ⌜ (length (now after) ≡ 5) × (length (now answer) ≡ 4) ⌝ }
+    ensures { λ r. ⌜ left r (now (after .exit) ∷ now (answer .exit) ∷ []) ≡ blockLeft o ⌝ }
+{
+    let w = o.words;
+    let r = o.refusal;
+    let found = o.found;
+    put_words(after, w);
+    put_four(
+        answer,
+        bit_of(found.mark),
+        found.place as u64,
+        found.tried as u64,
+        place(r) as u64,
+    );
+    number(r)
+}
+
+// What an update or a reset leaves: the hasher and an answer.
+pub fn leave_updated(
+    words: &mut [u32],
+    pending: &mut [u8],
+    state: &mut [u64],
+    answer: &mut [u64],
+    u: Updated,
+) -> u32
+    requires { ⌜ ((length (now words) ≡ 5) × (length (now pending) ≡ 64) × (length (now state) ≡ 4)) × (length (now answer) ≡ 2) ⌝ }
+    ensures { λ r. ⌜ left r (now (words .exit) ∷ now (pending .exit) ∷ now (state .exit) ∷ now (answer .exit) ∷ []) ≡ updatedLeft u ⌝ }
+{
+    let h = u.hasher;
+    let r = u.refusal;
+    put_hasher(words, pending, state, h);
+    say(answer, 0, r)
+}
+
+// What a finish or the one-shot form leaves: the digest and an answer.
+pub fn leave_digest(digest: &mut [u8], answer: &mut [u64], d: [u8; DIGEST_SIZE], o: Outcome) -> u32
+    requires { ⌜ (length (now digest) ≡ digestSize) × (length (now answer) ≡ 2) ⌝ }
+    ensures { λ r. ⌜ left r (now (digest .exit) ∷ now (answer .exit) ∷ []) ≡ digestLeft o d ⌝ }
+{
+    put_digest(digest, d);
+    put_outcome(answer, o)
+}
+
+// What a finish-and-reset leaves: the hasher and an answer, around the output that it wrote before.
+pub fn leave_finish_reset(
+    words: &mut [u32],
+    pending: &mut [u8],
+    state: &mut [u64],
+    out: &[u8],
+    answer: &mut [u64],
+    c: Closed,
+) -> u32
+    requires { ⌜ ((length (now words) ≡ 5) × (length (now pending) ≡ 64) × (length (now state) ≡ 4)) × (length (now answer) ≡ 2) ⌝ }
+    ensures { λ r. ⌜ left r (now (words .exit) ∷ now (pending .exit) ∷ now (state .exit) ∷ now (out .entry) ∷ now (answer .exit) ∷ []) ≡ finishResetLeft c (now (out .entry)) ⌝ }
+{
+    let h = c.hasher;
+    let outcome = c.outcome;
+    put_hasher(words, pending, state, h);
+    put_outcome(answer, outcome)
+}
+
+// What a comparison leaves: its answer's number, and 0 where other calls have a place.
+pub fn leave_compared(answer: &mut [u64], c: Compared) -> u32
+    requires { ⌜ length (now answer) ≡ 2 ⌝ }
+    ensures { λ r. ⌜ left r (now (answer .exit) ∷ []) ≡ comparedLeft c ⌝ }
+{
+    put_two(answer, comparison_in(c), 0);
+    compared_number(c)
+}

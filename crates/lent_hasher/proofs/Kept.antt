@@ -1,0 +1,92 @@
+-- A call that gives back a number other than 0 leaves the hasher's slices, and the output of finish-and-reset, as they were. Assumes nothing.
+use mathlib.Core.Path.{_≡_, refl, ap, _∙_}
+use mathlib.Core.Bool.{Bool, true, false, _&&_, true≢false}
+use mathlib.Core.List.{List, [], _∷_, _++_}
+use Prim.Native.Nat.{ℕ, _<_}
+use native.Mathlib.Nat.{lt-irrefl}
+use native.Mathlib.Omega.{arith}
+use lib.Dec.{eqb}
+use lib.ListN.{length}
+use borrow.Author.Tests.{ne-eqb}
+use Rattle.word.specs.Choice.{pick}
+use Rattle.word.proofs.Tests.{both-true}
+use Rattle.refusal.specs.Refusal.{numberOf, isNothing}
+use Rattle.refusal.specs.declared.Refusal.{Refusal}
+use Rattle.refusal.specs.declared.Refusal.the-variants.{Nothing, HasherForm}
+use Rattle.stream.specs.declared.Chain.{Chain}
+use Rattle.hasher.specs.Hasher.{wellFormed, updated, freshOf, resetOf}
+use Rattle.hasher.specs.declared.Hasher.{Hasher}
+use Rattle.hasher.specs.declared.Updated.{Updated}
+use Rattle.finish.specs.Finish.{lastChain, finishRefusal, outcomeOf, outcomeRefusal, digestOr, closed, writtenOut}
+use Rattle.finish.specs.declared.Outcome.the-variants.{Refused}
+use Rattle.layout.specs.Layout.{hasherIn, slicesOf, hasherFits}
+use Rattle.layout.proofs.ReadBack.{slices-back}
+use Rattle.answers.specs.Answers.{Left, left, guarded, answerPair, outcomeAnswer, updatedLeft}
+use Rattle.lent_hasher.specs.LentHasher.{updateCall, resetCall, finishResetCall}
+
+-- what is left has the slices xs first
+abbrev Keeps : List (List ℕ) → Left → Type 0
+Keeps xs l = (ys : List (List ℕ)) × (l .slices ≡ xs ++ ys)
+
+-- a call whose work, where the agreement is kept and the number is not 0, keeps the slices xs keeps them in any case
+guarded-keeps : (fits : Bool) (done : Left) (xs ys : List (List ℕ)) → (fits ≡ true → 0 < done .number → Keeps xs done)
+    → 0 < guarded fits done (xs ++ ys) .number → Keeps xs (guarded fits done (xs ++ ys))
+guarded-keeps true done xs ys k n = k refl n
+guarded-keeps false done xs ys k n = (ys, refl)
+
+some-refusal : (r : Refusal) → 0 < numberOf r → isNothing r ≡ false
+some-refusal r n = ne-eqb (numberOf r) 0 (λ e. absurd (omega (arith, e)))
+
+module _ (w p s : List ℕ) where
+  -- an update that is refused hands its hasher back, and a reset too
+  updated-keeps : hasherFits (length w) (length p) s ≡ true → (u : Updated) → (isNothing (u .refusal) ≡ false → u .hasher ≡ hasherIn w p s)
+      → 0 < updatedLeft u .number → Keeps (w ∷ p ∷ s ∷ []) (updatedLeft u)
+  updated-keeps e u same n =
+      (answerPair 0 (u .refusal) ∷ [], ap (λ (xs : List (List ℕ)). xs ++ (answerPair 0 (u .refusal) ∷ [])) (ap slicesOf (same (some-refusal (u .refusal) n)) ∙ slices-back w p s e))
+
+  -- Where an update gives a number other than 0, the hasher's three slices are as they were.
+  pub update-keeps : (bytes table masks answer : List ℕ) → 0 < updateCall w p s bytes table masks answer .number
+      → Keeps (w ∷ p ∷ s ∷ []) (updateCall w p s bytes table masks answer)
+  unfolding updateCall updated
+  update-keeps bytes table masks answer =
+      let h = hasherIn w p s in
+      guarded-keeps (hasherFits (length w) (length p) s && eqb (length answer) 2) (updatedLeft (updated h bytes table masks)) (w ∷ p ∷ s ∷ []) (answer ∷ [])
+      (λ e. updated-keeps (both-true (hasherFits (length w) (length p) s) (eqb (length answer) 2) e .0) (updated h bytes table masks) (λ n. rw n))
+
+  -- what a reset gives, by whether the hasher is well formed
+  abbrev resetBy : Bool → Updated
+  resetBy b = pick b (record { refusal = Nothing; hasher = freshOf (hasherIn w p s .flags) }) (record { refusal = HasherForm; hasher = hasherIn w p s })
+
+  reset-same : (b : Bool) → isNothing (resetBy b .refusal) ≡ false → resetBy b .hasher ≡ hasherIn w p s
+  reset-same true e = absurd (true≢false e)
+  reset-same false e = refl
+
+  -- So with a reset.
+  pub reset-keeps : (answer : List ℕ) → 0 < resetCall w p s answer .number → Keeps (w ∷ p ∷ s ∷ []) (resetCall w p s answer)
+  unfolding resetCall resetOf
+  reset-keeps answer =
+      let h = hasherIn w p s in
+      guarded-keeps (hasherFits (length w) (length p) s && eqb (length answer) 2) (updatedLeft (resetOf h)) (w ∷ p ∷ s ∷ []) (answer ∷ [])
+      (λ e. updated-keeps (both-true (hasherFits (length w) (length p) s) (eqb (length answer) 2) e .0) (resetOf h) (reset-same (wellFormed h)))
+
+  -- what a finish-and-reset leaves, of a refusal r, the chain c and the hasher g that it would hand back
+  abbrev leftBy : Refusal → Chain → Bool → Hasher → List ℕ → Left
+  leftBy r c mitigate g out =
+      left (numberOf (outcomeRefusal (outcomeOf r c mitigate))) (slicesOf (pick (isNothing r) g (hasherIn w p s)) ++ digestOr r c out ∷ outcomeAnswer (outcomeOf r c mitigate) ∷ [])
+
+  left-keeps : (r : Refusal) (b : Bool) → isNothing r ≡ b → (c : Chain) (m : Bool) (g : Hasher) (out : List ℕ) → hasherFits (length w) (length p) s ≡ true
+      → 0 < leftBy r c m g out .number → Keeps (w ∷ p ∷ s ∷ out ∷ []) (leftBy r c m g out)
+  left-keeps r true i c m g out e n = absurd (lt-irrefl 0 (rw i at n))
+  left-keeps r false i c m g out e n =
+      (outcomeAnswer (outcomeOf r c m) ∷ [], rw i (ap (λ (xs : List (List ℕ)). xs ++ (out ∷ outcomeAnswer (Refused r) ∷ [])) (slices-back w p s e)))
+
+  -- So with a finish-and-reset, and its output is as it was.
+  pub finish-reset-keeps : (out table masks answer : List ℕ) → 0 < finishResetCall w p s out table masks answer .number
+      → Keeps (w ∷ p ∷ s ∷ out ∷ []) (finishResetCall w p s out table masks answer)
+  unfolding finishResetCall closed writtenOut
+  finish-reset-keeps out table masks answer =
+      let h = hasherIn w p s in
+      let r = finishRefusal h (length out) table masks in
+      let c = lastChain h table masks in
+      guarded-keeps (hasherFits (length w) (length p) s && eqb (length answer) 2) (leftBy r c (h .flags .mitigate) (freshOf (h .flags)) out) (w ∷ p ∷ s ∷ out ∷ []) (answer ∷ [])
+      (λ e. left-keeps r (isNothing r) refl c (h .flags .mitigate) (freshOf (h .flags)) out (both-true (hasherFits (length w) (length p) s) (eqb (length answer) 2) e .0))

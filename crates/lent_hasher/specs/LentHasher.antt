@@ -1,0 +1,41 @@
+-- What each call on a hasher in lent memory gives back, and what it leaves there.
+use mathlib.Core.Bool.{_&&_}
+use mathlib.Core.List.{List, [], _∷_}
+use Prim.Native.Nat.{ℕ}
+use lib.Dec.{eqb}
+use lib.ListN.{length}
+use Rattle.verdict.specs.Verdict.{digestSize}
+use Rattle.hasher.specs.Hasher.{updated, resetOf}
+use Rattle.finish.specs.Finish.{finished, closed, writtenOut}
+use Rattle.layout.specs.Layout.{hasherIn, hasherFits}
+use Rattle.answers.specs.Answers.{Left, guarded, updatedLeft, digestLeft, finishResetLeft}
+
+-- the call of an update
+unfoldable pub updateCall : List ℕ → List ℕ → List ℕ → List ℕ → List ℕ → List ℕ → List ℕ → Left
+updateCall words pending state bytes table masks answer =
+    guarded (hasherFits (length words) (length pending) state && eqb (length answer) 2)
+    (updatedLeft (updated (hasherIn words pending state) bytes table masks))
+    (words ∷ pending ∷ state ∷ answer ∷ [])
+
+-- the call of a reset
+unfoldable pub resetCall : List ℕ → List ℕ → List ℕ → List ℕ → Left
+resetCall words pending state answer =
+    guarded (hasherFits (length words) (length pending) state && eqb (length answer) 2)
+    (updatedLeft (resetOf (hasherIn words pending state)))
+    (words ∷ pending ∷ state ∷ answer ∷ [])
+
+-- the call of a finish, which only reads the hasher
+unfoldable pub finishCall : List ℕ → List ℕ → List ℕ → List ℕ → List ℕ → List ℕ → List ℕ → Left
+finishCall words pending state digest table masks answer =
+    let f = finished (hasherIn words pending state) table masks in
+    guarded (hasherFits (length words) (length pending) state && (eqb (length digest) digestSize && eqb (length answer) 2))
+    (digestLeft (f .outcome) (f .digest))
+    (digest ∷ answer ∷ [])
+
+-- the call of a finish-and-reset
+unfoldable pub finishResetCall : List ℕ → List ℕ → List ℕ → List ℕ → List ℕ → List ℕ → List ℕ → Left
+finishResetCall words pending state out table masks answer =
+    let h = hasherIn words pending state in
+    guarded (hasherFits (length words) (length pending) state && eqb (length answer) 2)
+    (finishResetLeft (closed h (length out) table masks) (writtenOut h out table masks))
+    (words ∷ pending ∷ state ∷ out ∷ answer ∷ [])

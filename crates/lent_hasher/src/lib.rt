@@ -1,0 +1,93 @@
+// The calls on a hasher that lies in lent memory: update, reset, finish, and finish and reset.
+ghost use mathlib.Core.Path.{_≡_};
+ghost use mathlib.Core.List.{[], _∷_};
+ghost use Rattle.answers.specs.Answers.{left};
+ghost use Rattle.lent_hasher.specs.LentHasher.{updateCall, resetCall, finishCall, finishResetCall};
+use answers::BROKEN_AGREEMENT;
+use answers::leave_digest;
+use answers::leave_finish_reset;
+use answers::leave_updated;
+use finish::finish;
+use finish::finish_and_reset;
+use hasher::reset;
+use hasher::update;
+use layout::digest_fits;
+use layout::hasher_fits;
+use layout::hasher_in;
+
+pub fn update_lent(
+    words: &mut [u32],
+    pending: &mut [u8],
+    state: &mut [u64],
+    bytes: &[u8],
+    table: &[u32],
+    masks: &[u32],
+    answer: &mut [u64],
+) -> u32
+    ensures { λ r. ⌜ left r (now (words .exit) ∷ now (pending .exit) ∷ now (state .exit) ∷ now (answer .exit) ∷ []) ≡ updateCall (now (words .entry)) (now (pending .entry)) (now (state .entry)) (now (bytes .entry)) (now (table .entry)) (now (masks .entry)) (now (answer .entry)) ⌝ }
+{
+    if !hasher_fits(words.len(), pending.len(), state, answer.len() == 2) {
+        return BROKEN_AGREEMENT;
+    }
+    let u = update(hasher_in(words, pending, state), bytes, table, masks);
+    leave_updated(words, pending, state, answer, u)
+}
+
+pub fn reset_lent(
+    words: &mut [u32],
+    pending: &mut [u8],
+    state: &mut [u64],
+    answer: &mut [u64],
+) -> u32
+    ensures { λ r. ⌜ left r (now (words .exit) ∷ now (pending .exit) ∷ now (state .exit) ∷ now (answer .exit) ∷ []) ≡ resetCall (now (words .entry)) (now (pending .entry)) (now (state .entry)) (now (answer .entry)) ⌝ }
+{
+    if !hasher_fits(words.len(), pending.len(), state, answer.len() == 2) {
+        return BROKEN_AGREEMENT;
+    }
+    let fresh = reset(hasher_in(words, pending, state));
+    leave_updated(words, pending, state, answer, fresh)
+}
+
+// The hasher is lent for reading only: a finish hands it back as given.
+pub fn finish_lent(
+    words: &[u32],
+    pending: &[u8],
+    state: &[u64],
+    digest: &mut [u8],
+    table: &[u32],
+    masks: &[u32],
+    answer: &mut [u64],
+) -> u32
+    ensures { λ r. ⌜ left r (now (digest .exit) ∷ now (answer .exit) ∷ []) ≡ finishCall (now (words .entry)) (now (pending .entry)) (now (state .entry)) (now (digest .entry)) (now (table .entry)) (now (masks .entry)) (now (answer .entry)) ⌝ }
+{
+    if !hasher_fits(
+        words.len(),
+        pending.len(),
+        state,
+        digest_fits(digest.len(), answer.len()),
+    ) {
+        return BROKEN_AGREEMENT;
+    }
+    let f = finish(hasher_in(words, pending, state), table, masks);
+    let d = f.digest;
+    let o = f.outcome;
+    leave_digest(digest, answer, d, o)
+}
+
+pub fn finish_and_reset_lent(
+    words: &mut [u32],
+    pending: &mut [u8],
+    state: &mut [u64],
+    out: &mut [u8],
+    table: &[u32],
+    masks: &[u32],
+    answer: &mut [u64],
+) -> u32
+    ensures { λ r. ⌜ left r (now (words .exit) ∷ now (pending .exit) ∷ now (state .exit) ∷ now (out .exit) ∷ now (answer .exit) ∷ []) ≡ finishResetCall (now (words .entry)) (now (pending .entry)) (now (state .entry)) (now (out .entry)) (now (table .entry)) (now (masks .entry)) (now (answer .entry)) ⌝ }
+{
+    if !hasher_fits(words.len(), pending.len(), state, answer.len() == 2) {
+        return BROKEN_AGREEMENT;
+    }
+    let c = finish_and_reset(hasher_in(words, pending, state), out, table, masks);
+    leave_finish_reset(words, pending, state, out, answer, c)
+}

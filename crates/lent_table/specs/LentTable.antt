@@ -1,0 +1,29 @@
+-- What each call on a lent table without a hasher gives back, and what it leaves in the memory lent to it.
+use mathlib.Core.Bool.{_&&_}
+use mathlib.Core.List.{List, [], _∷_}
+use Prim.Native.Nat.{ℕ}
+use lib.Dec.{eqb}
+use lib.ListN.{length}
+use Rattle.verdict.specs.Verdict.{digestSize}
+use Rattle.table.specs.Table.{tableFault}
+use Rattle.detect.specs.Detect.{oneBlockOf}
+use Rattle.detect.specs.declared.Mode.{Mode}
+use Rattle.finish.specs.Finish.{digested}
+use Rattle.answers.specs.Answers.{Left, guarded, blockLeft, digestLeft, refusalLeft}
+
+-- the call of one block
+unfoldable pub blockCall : List ℕ → List ℕ → List ℕ → ℕ → Mode → List ℕ → List ℕ → Left
+blockCall words block table mask mode after answer =
+    guarded (eqb (length words) 5 && (eqb (length after) 5 && eqb (length answer) 4))
+    (blockLeft (oneBlockOf words block table mask mode))
+    (after ∷ answer ∷ [])
+
+-- the call of the one-shot form
+unfoldable pub oneShotCall : List ℕ → List ℕ → List ℕ → List ℕ → List ℕ → Left
+oneShotCall bytes digest table masks answer =
+    let d = digested bytes table masks in
+    guarded (eqb (length digest) digestSize && eqb (length answer) 2) (digestLeft (d .outcome) (d .digest)) (digest ∷ answer ∷ [])
+
+-- the call of a table check
+unfoldable pub tableCall : List ℕ → List ℕ → Left
+tableCall table answer = guarded (eqb (length answer) 2) (refusalLeft (tableFault table)) (answer ∷ [])

@@ -1,0 +1,68 @@
+// The calls on a lent table that have no hasher: one block, a whole message in one call, and the check of the table.
+ghost use mathlib.Core.Path.{_≡_};
+ghost use mathlib.Core.List.{[], _∷_};
+ghost use Rattle.answers.specs.Answers.{left};
+ghost use Rattle.lent_table.specs.LentTable.{blockCall, oneShotCall, tableCall};
+use answers::BROKEN_AGREEMENT;
+use answers::leave_block;
+use answers::leave_digest;
+use answers::say;
+use detect::Mode;
+use detect::one_block;
+use finish::one_shot;
+use layout::block_fits;
+use layout::digest_fits;
+use layout::words_in;
+use table::table_fault;
+
+pub fn one_block_lent(
+    words: &[u32],
+    block: &[u8],
+    table: &[u32],
+    mask: u32,
+    mitigate: bool,
+    reduced: bool,
+    after: &mut [u32],
+    answer: &mut [u64],
+) -> u32
+    ensures { λ r. ⌜ left r (now (after .exit) ∷ now (answer .exit) ∷ []) ≡ blockCall (now (words .entry)) (now (block .entry)) (now (table .entry)) mask (record { mitigate = mitigate; reduced = reduced }) (now (after .entry)) (now (answer .entry)) ⌝ }
+{
+    if !block_fits(words.len(), after.len(), answer.len()) {
+        return BROKEN_AGREEMENT;
+    }
+    let o = one_block(
+        words_in(words),
+        block,
+        table,
+        mask,
+        Mode { mitigate, reduced },
+    );
+    leave_block(after, answer, o)
+}
+
+pub fn one_shot_lent(
+    bytes: &[u8],
+    digest: &mut [u8],
+    table: &[u32],
+    masks: &[u32],
+    answer: &mut [u64],
+) -> u32
+    ensures { λ r. ⌜ left r (now (digest .exit) ∷ now (answer .exit) ∷ []) ≡ oneShotCall (now (bytes .entry)) (now (digest .entry)) (now (table .entry)) (now (masks .entry)) (now (answer .entry)) ⌝ }
+{
+    if !digest_fits(digest.len(), answer.len()) {
+        return BROKEN_AGREEMENT;
+    }
+    let s = one_shot(bytes, table, masks);
+    let d = s.digest;
+    let o = s.outcome;
+    leave_digest(digest, answer, d, o)
+}
+
+pub fn table_fault_lent(table: &[u32], answer: &mut [u64]) -> u32
+    ensures { λ r. ⌜ left r (now (answer .exit) ∷ []) ≡ tableCall (now (table .entry)) (now (answer .entry)) ⌝ }
+{
+    if answer.len() != 2 {
+        return BROKEN_AGREEMENT;
+    }
+    say(answer, 0, table_fault(table))
+}

@@ -10,7 +10,7 @@ use Rattle.hasher.specs.declared.Updated.{Updated}
 use Rattle.finish.specs.Finish.{outcomeRefusal}
 use Rattle.finish.specs.declared.Outcome.{Outcome}
 use Rattle.finish.specs.declared.Outcome.the-variants.{Done, Refused}
-use Rattle.finish.specs.declared.Closed.{Closed}
+use Rattle.finish.specs.declared.FinishedReset.{FinishedReset}
 use Rattle.sheet.specs.Compare.{comparedNumber}
 use Rattle.sheet.specs.declared.Comparison.the-variants.{Match, Differs, Absent}
 use Rattle.sheet.specs.declared.Compared.{Compared}
@@ -69,7 +69,7 @@ abbrev pub digestLeft : Outcome → List ℕ → Left
 digestLeft o digest = left (numberOf (outcomeRefusal o)) (digest ∷ outcomeAnswer o ∷ [])
 
 -- what a finish-and-reset leaves, of a hasher and an outcome, around the output that it wrote
-abbrev pub finishResetLeft : Closed → List ℕ → Left
+abbrev pub finishResetLeft : FinishedReset → List ℕ → Left
 finishResetLeft c out =
     left (numberOf (outcomeRefusal (c .outcome))) (slicesOf (c .hasher) ++ out ∷ outcomeAnswer (c .outcome) ∷ [])
 

@@ -8,7 +8,7 @@ ghost use Rattle.finish.specs.Finish.{outcomeRefusal};
 ghost use Rattle.sheet.specs.Compare.{comparedNumber};
 ghost use Rattle.answers.specs.Answers.{left, answerPair, verdictIn, outcomeAnswer, comparisonIn, blockLeft, updatedLeft, digestLeft, finishResetLeft, comparedLeft};
 use detect::OneBlock;
-use finish::Closed;
+use finish::FinishedReset;
 use finish::Outcome;
 use hasher::Updated;
 use layout::DIGEST_SIZE;
@@ -138,7 +138,7 @@ pub fn leave_finish_reset(
     state: &mut [u64],
     out: &[u8],
     answer: &mut [u64],
-    c: Closed,
+    c: FinishedReset,
 ) -> u32
     requires { ⌜ ((length (now words) ≡ 5) × (length (now pending) ≡ 64) × (length (now state) ≡ 4)) × (length (now answer) ≡ 2) ⌝ }
     ensures { λ r. ⌜ left r (now (words .exit) ∷ now (pending .exit) ∷ now (state .exit) ∷ now (out .entry) ∷ now (answer .exit) ∷ []) ≡ finishResetLeft c (now (out .entry)) ⌝ }

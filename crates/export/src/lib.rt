@@ -4,6 +4,7 @@
 // library, so each call has its name here and its work in the crates below.
 ghost use mathlib.Core.Path.{_≡_};
 ghost use mathlib.Core.List.{[], _∷_};
+ghost use Rattle.stream.specs.Loan.{loanOf};
 ghost use Rattle.answers.specs.Answers.{left};
 ghost use Rattle.lent_hasher.specs.LentHasher.{updateCall, resetCall, finishCall, finishResetCall};
 ghost use Rattle.lent_table.specs.LentTable.{blockCall, oneShotCall, tableCall};
@@ -44,7 +45,7 @@ pub extern "C" fn purserumble_update(
     masks: &[u32],
     answer: &mut [u64],
 ) -> u32
-    ensures { λ r. ⌜ left r (now (words .exit) ∷ now (pending .exit) ∷ now (state .exit) ∷ now (answer .exit) ∷ []) ≡ updateCall (now (words .entry)) (now (pending .entry)) (now (state .entry)) (now (bytes .entry)) (now (table .entry)) (now (masks .entry)) (now (answer .entry)) ⌝ }
+    ensures { λ r. ⌜ left r (now (words .exit) ∷ now (pending .exit) ∷ now (state .exit) ∷ now (answer .exit) ∷ []) ≡ updateCall (now (words .entry)) (now (pending .entry)) (now (state .entry)) (now (bytes .entry)) (loanOf (now (table .entry)) (now (masks .entry))) (now (answer .entry)) ⌝ }
 {
     update_lent(words, pending, state, bytes, table, masks, answer)
 }
@@ -72,7 +73,7 @@ pub extern "C" fn purserumble_finish(
     masks: &[u32],
     answer: &mut [u64],
 ) -> u32
-    ensures { λ r. ⌜ left r (now (digest .exit) ∷ now (answer .exit) ∷ []) ≡ finishCall (now (words .entry)) (now (pending .entry)) (now (state .entry)) (now (digest .entry)) (now (table .entry)) (now (masks .entry)) (now (answer .entry)) ⌝ }
+    ensures { λ r. ⌜ left r (now (digest .exit) ∷ now (answer .exit) ∷ []) ≡ finishCall (now (words .entry)) (now (pending .entry)) (now (state .entry)) (now (digest .entry)) (loanOf (now (table .entry)) (now (masks .entry))) (now (answer .entry)) ⌝ }
 {
     finish_lent(words, pending, state, digest, table, masks, answer)
 }
@@ -87,7 +88,7 @@ pub extern "C" fn purserumble_finish_and_reset(
     masks: &[u32],
     answer: &mut [u64],
 ) -> u32
-    ensures { λ r. ⌜ left r (now (words .exit) ∷ now (pending .exit) ∷ now (state .exit) ∷ now (out .exit) ∷ now (answer .exit) ∷ []) ≡ finishResetCall (now (words .entry)) (now (pending .entry)) (now (state .entry)) (now (out .entry)) (now (table .entry)) (now (masks .entry)) (now (answer .entry)) ⌝ }
+    ensures { λ r. ⌜ left r (now (words .exit) ∷ now (pending .exit) ∷ now (state .exit) ∷ now (out .exit) ∷ now (answer .exit) ∷ []) ≡ finishResetCall (now (words .entry)) (now (pending .entry)) (now (state .entry)) (now (out .entry)) (loanOf (now (table .entry)) (now (masks .entry))) (now (answer .entry)) ⌝ }
 {
     finish_and_reset_lent(words, pending, state, out, table, masks, answer)
 }
@@ -100,7 +101,7 @@ pub extern "C" fn purserumble_one_shot(
     masks: &[u32],
     answer: &mut [u64],
 ) -> u32
-    ensures { λ r. ⌜ left r (now (digest .exit) ∷ now (answer .exit) ∷ []) ≡ oneShotCall (now (bytes .entry)) (now (digest .entry)) (now (table .entry)) (now (masks .entry)) (now (answer .entry)) ⌝ }
+    ensures { λ r. ⌜ left r (now (digest .exit) ∷ now (answer .exit) ∷ []) ≡ oneShotCall (now (bytes .entry)) (now (digest .entry)) (loanOf (now (table .entry)) (now (masks .entry))) (now (answer .entry)) ⌝ }
 {
     one_shot_lent(bytes, digest, table, masks, answer)
 }

@@ -7,8 +7,8 @@ use lib.ListN.{length, getD}
 use Rattle.word.specs.Choice.{pick}
 use Rattle.verdict.specs.declared.Verdict.{Verdict}
 use Rattle.verdict.specs.declared.Verdict.the-variants.{Ok, Mitigated, Collision}
-use Rattle.stream.specs.Flags.{masksOf, isLent}
-use Rattle.stream.specs.declared.Flags.{Flags}
+use Rattle.flags.specs.Flags.{masksOf, isLent}
+use Rattle.flags.specs.declared.Flags.{Flags}
 use Rattle.hasher.specs.declared.Hasher.{Hasher}
 
 -- a truth value as a number

@@ -6,13 +6,13 @@ ghost use mathlib.Core.List.{[], _∷_};
 ghost use Prim.Native.Nat.{_<_};
 ghost use lib.Dec.{eqb};
 ghost use lib.ListN.{length};
-ghost use Rattle.stream.specs.Flags.{isLent};
+ghost use Rattle.flags.specs.Flags.{isLent};
 ghost use Rattle.verdict.specs.Verdict.{digestSize};
 ghost use Rattle.layout.specs.Layout.{bitOf, hasWorth, flagsIn, flagsNumber, hasherIn, stateOf, stateFits, hasherFits, verdictNumber, verdictKnown, verdictFor};
+use flags::Flags;
+use flags::Masks;
 use hasher::Hasher;
 use octets::store;
-use stream::Flags;
-use stream::Masks;
 use verdict::Verdict;
 
 pub const DIGEST_SIZE: usize = 20;

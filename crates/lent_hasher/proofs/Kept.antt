@@ -14,10 +14,12 @@ use Rattle.refusal.specs.Refusal.{numberOf, isNothing}
 use Rattle.refusal.specs.declared.Refusal.{Refusal}
 use Rattle.refusal.specs.declared.Refusal.the-variants.{Nothing, HasherForm}
 use Rattle.stream.specs.declared.Chain.{Chain}
-use Rattle.hasher.specs.Hasher.{wellFormed, updated, freshOf, resetOf}
+use Rattle.stream.specs.Loan.{Loan}
+use Rattle.hasher.specs.Hasher.{wellFormed, freshOf, resetOf}
+use Rattle.update.specs.Update.{updated}
 use Rattle.hasher.specs.declared.Hasher.{Hasher}
 use Rattle.hasher.specs.declared.Updated.{Updated}
-use Rattle.finish.specs.Finish.{lastChain, finishRefusal, outcomeOf, outcomeRefusal, digestOr, closed, writtenOut}
+use Rattle.finish.specs.Finish.{lastChain, finishRefusal, outcomeOf, outcomeRefusal, digestOr, finishedReset, writtenOut}
 use Rattle.finish.specs.declared.Outcome.the-variants.{Refused}
 use Rattle.layout.specs.Layout.{hasherIn, slicesOf, hasherFits}
 use Rattle.layout.proofs.ReadBack.{slices-back}
@@ -45,13 +47,13 @@ module _ (w p s : List ℕ) where
       (answerPair 0 (u .refusal) ∷ [], ap (λ (xs : List (List ℕ)). xs ++ (answerPair 0 (u .refusal) ∷ [])) (ap slicesOf (same (some-refusal (u .refusal) n)) ∙ slices-back w p s e))
 
   -- Where an update gives a number other than 0, the hasher's three slices are as they were.
-  pub update-keeps : (bytes table masks answer : List ℕ) → 0 < updateCall w p s bytes table masks answer .number
-      → Keeps (w ∷ p ∷ s ∷ []) (updateCall w p s bytes table masks answer)
+  pub update-keeps : (bytes : List ℕ) (l : Loan) (answer : List ℕ) → 0 < updateCall w p s bytes l answer .number
+      → Keeps (w ∷ p ∷ s ∷ []) (updateCall w p s bytes l answer)
   unfolding updateCall updated
-  update-keeps bytes table masks answer =
+  update-keeps bytes l answer =
       let h = hasherIn w p s in
-      guarded-keeps (hasherFits (length w) (length p) s && eqb (length answer) 2) (updatedLeft (updated h bytes table masks)) (w ∷ p ∷ s ∷ []) (answer ∷ [])
-      (λ e. updated-keeps (both-true (hasherFits (length w) (length p) s) (eqb (length answer) 2) e .0) (updated h bytes table masks) (λ n. rw n))
+      guarded-keeps (hasherFits (length w) (length p) s && eqb (length answer) 2) (updatedLeft (updated h bytes l)) (w ∷ p ∷ s ∷ []) (answer ∷ [])
+      (λ e. updated-keeps (both-true (hasherFits (length w) (length p) s) (eqb (length answer) 2) e .0) (updated h bytes l) (λ n. rw n))
 
   -- what a reset gives, by whether the hasher is well formed
   abbrev resetBy : Bool → Updated
@@ -81,12 +83,12 @@ module _ (w p s : List ℕ) where
       (outcomeAnswer (outcomeOf r c m) ∷ [], rw i (ap (λ (xs : List (List ℕ)). xs ++ (out ∷ outcomeAnswer (Refused r) ∷ [])) (slices-back w p s e)))
 
   -- So with a finish-and-reset, and its output is as it was.
-  pub finish-reset-keeps : (out table masks answer : List ℕ) → 0 < finishResetCall w p s out table masks answer .number
-      → Keeps (w ∷ p ∷ s ∷ out ∷ []) (finishResetCall w p s out table masks answer)
-  unfolding finishResetCall closed writtenOut
-  finish-reset-keeps out table masks answer =
+  pub finish-reset-keeps : (out : List ℕ) (l : Loan) (answer : List ℕ) → 0 < finishResetCall w p s out l answer .number
+      → Keeps (w ∷ p ∷ s ∷ out ∷ []) (finishResetCall w p s out l answer)
+  unfolding finishResetCall finishedReset writtenOut
+  finish-reset-keeps out l answer =
       let h = hasherIn w p s in
-      let r = finishRefusal h (length out) table masks in
-      let c = lastChain h table masks in
+      let r = finishRefusal h (length out) l in
+      let c = lastChain h l in
       guarded-keeps (hasherFits (length w) (length p) s && eqb (length answer) 2) (leftBy r c (h .flags .mitigate) (freshOf (h .flags)) out) (w ∷ p ∷ s ∷ out ∷ []) (answer ∷ [])
       (λ e. left-keeps r (isNothing r) refl c (h .flags .mitigate) (freshOf (h .flags)) out (both-true (hasherFits (length w) (length p) s) (eqb (length answer) 2) e .0))

@@ -5,16 +5,18 @@ use Prim.Native.Nat.{ℕ}
 use lib.Dec.{eqb}
 use lib.ListN.{length}
 use Rattle.verdict.specs.Verdict.{digestSize}
-use Rattle.hasher.specs.Hasher.{updated, resetOf}
-use Rattle.finish.specs.Finish.{finished, closed, writtenOut}
+use Rattle.stream.specs.Loan.{Loan}
+use Rattle.hasher.specs.Hasher.{resetOf}
+use Rattle.update.specs.Update.{updated}
+use Rattle.finish.specs.Finish.{finished, finishedReset, writtenOut}
 use Rattle.layout.specs.Layout.{hasherIn, hasherFits}
 use Rattle.answers.specs.Answers.{Left, guarded, updatedLeft, digestLeft, finishResetLeft}
 
 -- the call of an update
-unfoldable pub updateCall : List ℕ → List ℕ → List ℕ → List ℕ → List ℕ → List ℕ → List ℕ → Left
-updateCall words pending state bytes table masks answer =
+unfoldable pub updateCall : List ℕ → List ℕ → List ℕ → List ℕ → Loan → List ℕ → Left
+updateCall words pending state bytes l answer =
     guarded (hasherFits (length words) (length pending) state && eqb (length answer) 2)
-    (updatedLeft (updated (hasherIn words pending state) bytes table masks))
+    (updatedLeft (updated (hasherIn words pending state) bytes l))
     (words ∷ pending ∷ state ∷ answer ∷ [])
 
 -- the call of a reset
@@ -25,17 +27,17 @@ resetCall words pending state answer =
     (words ∷ pending ∷ state ∷ answer ∷ [])
 
 -- the call of a finish, which only reads the hasher
-unfoldable pub finishCall : List ℕ → List ℕ → List ℕ → List ℕ → List ℕ → List ℕ → List ℕ → Left
-finishCall words pending state digest table masks answer =
-    let f = finished (hasherIn words pending state) table masks in
+unfoldable pub finishCall : List ℕ → List ℕ → List ℕ → List ℕ → Loan → List ℕ → Left
+finishCall words pending state digest l answer =
+    let f = finished (hasherIn words pending state) l in
     guarded (hasherFits (length words) (length pending) state && (eqb (length digest) digestSize && eqb (length answer) 2))
     (digestLeft (f .outcome) (f .digest))
     (digest ∷ answer ∷ [])
 
 -- the call of a finish-and-reset
-unfoldable pub finishResetCall : List ℕ → List ℕ → List ℕ → List ℕ → List ℕ → List ℕ → List ℕ → Left
-finishResetCall words pending state out table masks answer =
+unfoldable pub finishResetCall : List ℕ → List ℕ → List ℕ → List ℕ → Loan → List ℕ → Left
+finishResetCall words pending state out l answer =
     let h = hasherIn words pending state in
     guarded (hasherFits (length words) (length pending) state && eqb (length answer) 2)
-    (finishResetLeft (closed h (length out) table masks) (writtenOut h out table masks))
+    (finishResetLeft (finishedReset h (length out) l) (writtenOut h out l))
     (words ∷ pending ∷ state ∷ out ∷ answer ∷ [])

@@ -8,7 +8,8 @@ use Rattle.verdict.specs.Verdict.{digestSize}
 use Rattle.table.specs.Table.{tableFault}
 use Rattle.detect.specs.Detect.{oneBlockOf}
 use Rattle.detect.specs.declared.Mode.{Mode}
-use Rattle.finish.specs.Finish.{digested}
+use Rattle.stream.specs.Loan.{Loan}
+use Rattle.one_shot.specs.Whole.{digested}
 use Rattle.answers.specs.Answers.{Left, guarded, blockLeft, digestLeft, refusalLeft}
 
 -- the call of one block
@@ -19,9 +20,9 @@ blockCall words block table mask mode after answer =
     (after ∷ answer ∷ [])
 
 -- the call of the one-shot form
-unfoldable pub oneShotCall : List ℕ → List ℕ → List ℕ → List ℕ → List ℕ → Left
-oneShotCall bytes digest table masks answer =
-    let d = digested bytes table masks in
+unfoldable pub oneShotCall : List ℕ → List ℕ → Loan → List ℕ → Left
+oneShotCall bytes digest l answer =
+    let d = digested bytes l in
     guarded (eqb (length digest) digestSize && eqb (length answer) 2) (digestLeft (d .outcome) (d .digest)) (digest ∷ answer ∷ [])
 
 -- the call of a table check

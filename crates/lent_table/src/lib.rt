@@ -1,6 +1,7 @@
 // The calls on a lent table that have no hasher: one block, a whole message in one call, and the check of the table.
 ghost use mathlib.Core.Path.{_≡_};
 ghost use mathlib.Core.List.{[], _∷_};
+ghost use Rattle.stream.specs.Loan.{loanOf};
 ghost use Rattle.answers.specs.Answers.{left};
 ghost use Rattle.lent_table.specs.LentTable.{blockCall, oneShotCall, tableCall};
 use answers::BROKEN_AGREEMENT;
@@ -9,11 +10,11 @@ use answers::leave_digest;
 use answers::say;
 use detect::Mode;
 use detect::one_block;
-use finish::one_shot;
 use layout::block_fits;
 use layout::digest_fits;
 use layout::words_in;
 use table::table_fault;
+use one_shot::one_shot;
 
 pub fn one_block_lent(
     words: &[u32],
@@ -47,7 +48,7 @@ pub fn one_shot_lent(
     masks: &[u32],
     answer: &mut [u64],
 ) -> u32
-    ensures { λ r. ⌜ left r (now (digest .exit) ∷ now (answer .exit) ∷ []) ≡ oneShotCall (now (bytes .entry)) (now (digest .entry)) (now (table .entry)) (now (masks .entry)) (now (answer .entry)) ⌝ }
+    ensures { λ r. ⌜ left r (now (digest .exit) ∷ now (answer .exit) ∷ []) ≡ oneShotCall (now (bytes .entry)) (now (digest .entry)) (loanOf (now (table .entry)) (now (masks .entry))) (now (answer .entry)) ⌝ }
 {
     if !digest_fits(digest.len(), answer.len()) {
         return BROKEN_AGREEMENT;

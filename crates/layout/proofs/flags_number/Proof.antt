@@ -1,6 +1,6 @@
 -- `layout::flags_number` meets its contract. Each of its four parts is at most the bit's worth. Assumes nothing.
 use native.Mathlib.Omega.{arith}
-use Rattle.stream.specs.Flags.{isLent}
+use Rattle.flags.specs.Flags.{isLent}
 use borrow.Author.Needs.{needs}
 use Rattle.layout.specs.Layout.{flagsNumber}
 use Rattle.layout.proofs.Stores.{at-most-one}

@@ -3,7 +3,7 @@ use mathlib.Core.Path.{_≡_, _∙_}
 use native.Mathlib.Omega.{arith}
 use lib.ListN.{length, length-set}
 use Rattle.step.specs.Step.{regsOf, fiveOf}
-use Rattle.hasher.proofs.Moves.{five-is}
+use Rattle.hasher.proofs.Words.{five-is}
 use Rattle.layout.proofs.Stores.{filled}
 use borrow.Author.Needs.{needs}
 use Rattle.layout.proofs.put_words.Statement.{statement}

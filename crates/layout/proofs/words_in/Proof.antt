@@ -1,5 +1,5 @@
 -- `layout::words_in` meets its contract. Assumes nothing.
-use Rattle.hasher.proofs.Moves.{five-is}
+use Rattle.hasher.proofs.Words.{five-is}
 use borrow.Author.Needs.{needs}
 use Rattle.layout.proofs.words_in.Statement.{statement}
 use Rattle.layout.proofs.words_in.Tie as tie

@@ -1,6 +1,6 @@
 -- A step and its undoing are each other's inverse: for any round function and constant, and so for each step of FIPS 180-4. Assumes nothing.
-use mathlib.Core.Path.{_≡_, refl, sym, ap, ap₂, _∙_, subst}
-use Prim.Native.Nat.{ℕ, _+_, _-_, _%_, _^_, _≤_, _<_}
+use mathlib.Core.Path.{_≡_, ap, _∙_}
+use Prim.Native.Nat.{ℕ, _+_, _%_, _^_, _<_}
 use native.Mathlib.Nat.{mod-lt, mod-add-mod, add-mod-mod}
 use native.Mathlib.Omega.{arith}
 use lib.Pow.{pow-pos}

@@ -5,8 +5,8 @@ use mathlib.Core.Bool.{Bool, true, false, _&&_, _||_, false≢true}
 use mathlib.Core.List.{List}
 use Prim.Native.Nat.{ℕ, _+_, _*_}
 use lib.ListN.{drop}
-use Rattle.word.specs.Lists.{AllWords}
-use Rattle.word.proofs.Words.{take-words, drop-words}
+use Rattle.word.specs.Lists.{AllWords, AllBytes}
+use Rattle.word.proofs.Below.{take-below, drop-below}
 use Rattle.refusal.specs.Refusal.{numberOf}
 use Rattle.refusal.specs.declared.Refusal.the-variants.{Nothing}
 use Rattle.step.specs.Step.{stepsOf, undosOf, sameRegs, Words, regsOf}
@@ -25,7 +25,7 @@ use Rattle.table.proofs.Good.{step-of}
 use Rattle.detect.specs.Detect.{siblingEnds, marks, answerOf, oneBlockOf}
 use Rattle.detect.specs.declared.Mode.{Mode}
 use Rattle.detect.proofs.Ended.{found-ended, marked-some, some-marked}
-use Rattle.claims.specs.Sibling.{AllBytes, siblingWords, stateAtTest, Reaches, Meets, Met, MeetsIn, MetIn}
+use Rattle.claims.specs.Sibling.{siblingWords, stateAtTest, Reaches, Meets, Met, MeetsIn, MetIn}
 use Rattle.claims.proofs.OneBlock.{block-answered}
 use Rattle.claims.proofs.Refusals.{block-0}
 
@@ -57,7 +57,7 @@ module _ (h : Regs) (block table : List ℕ) (hw : Words h) (bytes : AllBytes bl
     pub sibling-is : siblingSchedule (scheduleOf (wordsOf block)) (dmAt table i) ≡ scheduleOf (siblingWords block table i)
     sibling-is =
         sibling-schedule (wordsOf block) (dmAt table i) (words-words block bytes)
-        (take-words dmWords (drop (recordWords * i + 2) table) (drop-words (recordWords * i + 2) table words)) (good .rule)
+        (take-below dmWords (drop (recordWords * i + 2) table) (drop-below (recordWords * i + 2) table words)) (good .rule)
 
     -- the start from which the sibling reaches the block's own state at the test step
     pub startOf : Regs

@@ -8,7 +8,7 @@ use lib.Bits.{bitXor, xor-zero-r}
 use lib.Dec.{eqb}
 use lib.ListN.{length, replicate, getD-replicate}
 use lib.Pow.{pow-pos}
-use Rattle.word.proofs.Words.{list-same}
+use Rattle.word.proofs.Fill.{list-same}
 use Rattle.refusal.specs.Refusal.{isNothing}
 use Rattle.refusal.specs.declared.Refusal.the-variants.{Nothing}
 use Rattle.step.specs.Step.{Words, regsOf}

@@ -12,7 +12,7 @@ use lib.Dec.{ltb, eqb}
 use lib.ListN.{length, replicate}
 use Rattle.word.specs.Choice.{pick}
 use Rattle.word.proofs.Tests.{both-true, of-either}
-use Rattle.refusal.specs.Refusal.{numberOf, isNothing}
+use Rattle.refusal.specs.Refusal.{numberOf, isNothing, oneOf}
 use Rattle.refusal.specs.declared.Refusal.{Refusal}
 use Rattle.refusal.specs.declared.Refusal.the-variants.{Nothing, HasherForm, MaskCount, MessageLength, Size}
 use Rattle.refusal.proofs.Chains.{Says, decided, itself, negated, less, equal, first-exactly, later-exactly, inside-exactly, last-exactly, never, later-is, inside-is, nothing-is, place-none}
@@ -35,7 +35,7 @@ use Rattle.finish.specs.Finish.{tailBlocks, finishRefusal, outcomeRefusal, outc
 use Rattle.finish.specs.declared.Outcome.{Outcome}
 use Rattle.finish.specs.declared.Outcome.the-variants.{Done, Refused}
 use Rattle.in_place.specs.InPlace.{InPlace}
-use Rattle.claims.specs.Refusals.{WellFormed, OfTable, Miscounted, WellCounted, blocksOf, oneOf}
+use Rattle.claims.specs.Refusals.{WellFormed, OfTable, Miscounted, WellCounted, blocksOf}
 use Rattle.claims.proofs.Formed.{well-formed}
 
 -- the tests, and what they say

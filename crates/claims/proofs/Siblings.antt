@@ -4,7 +4,7 @@ use mathlib.Core.Logic.{_↔_, Iff·rfl, Iff·trans, Iff·and}
 use mathlib.Core.Bool.{Bool, true, false, _&&_, true≢false}
 use mathlib.Core.List.{List}
 use Prim.Native.Nat.{ℕ}
-use Rattle.word.specs.Lists.{AllWords}
+use Rattle.word.specs.Lists.{AllWords, AllBytes}
 use Rattle.word.proofs.Tests.{unless-true}
 use Rattle.verdict.specs.Verdict.{digestSize}
 use Rattle.verdict.specs.declared.Verdict.the-variants.{Ok, Mitigated, Collision}
@@ -19,7 +19,6 @@ use Rattle.finish.specs.declared.Outcome.the-variants.{Done}
 use Rattle.finish.proofs.Closing.{finish-closing}
 use Rattle.claims.specs.Pieces.{Piece, bytesOf, taking, hashed, blockMasks, NoneRefused}
 use Rattle.claims.specs.Marked.{againBy, wordsBefore, blockAt, maskFor, markedAt, NoneMarked, OneMarked}
-use Rattle.claims.specs.Sibling.{AllBytes}
 use Rattle.claims.specs.Message.{MetAt, NoneMet, OneMet}
 use Rattle.claims.proofs.Along.{hash-words, initial-words, block-bytes}
 use Rattle.claims.proofs.Kept.{pieces-flags}

@@ -1,9 +1,7 @@
 -- What the lines of 01's table of numbers say of a call, as facts.
 use mathlib.Core.Path.{_≡_}
-use mathlib.Core.Bool.{Bool, true, false, _||_}
-use mathlib.Core.List.{List, [], _∷_}
+use mathlib.Core.Bool.{true}
 use Prim.Native.Nat.{ℕ, _+_, _/_, _%_, _≤_}
-use lib.Dec.{eqb}
 use lib.ListN.{getD}
 use Rattle.stream.specs.Flags.{usesMasks}
 use Rattle.stream.specs.declared.Flags.{Flags}
@@ -33,8 +31,3 @@ WellCounted f k blocks = usesMasks f ≡ true → k ≡ blocks
 -- the blocks of a message of n bytes, padding included
 abbrev pub blocksOf : ℕ → ℕ
 blocksOf n = n / 64 + tailBlocks (n % 64)
-
--- n is one of the numbers listed
-abbrev pub oneOf : List ℕ → ℕ → Bool
-oneOf [] n = false
-oneOf (x ∷ xs) n = eqb x n || oneOf xs n

@@ -4,7 +4,7 @@ use mathlib.Core.Logic.{_⊎_}
 use mathlib.Core.Bool.{Bool, true}
 use mathlib.Core.List.{List}
 use Prim.Native.Nat.{ℕ, _<_}
-use lib.ListN.{length, getD}
+use lib.ListN.{length}
 use Rattle.word.specs.Lists.{xorWords}
 use Rattle.step.specs.Step.{stepsOf, Words}
 use Rattle.step.specs.declared.Regs.{Regs}
@@ -12,10 +12,6 @@ use Rattle.block.specs.Schedule.{wordsOf, scheduleOf}
 use Rattle.block.specs.Compress.{overSchedule, compressOf}
 use Rattle.table.specs.Table.{recordsIn, testWordAt, dmAt}
 use Rattle.detect.specs.Detect.{selects}
-
--- every element is a byte
-abbrev pub AllBytes : List ℕ → Type 0
-AllBytes xs = (i : ℕ) → getD xs i 0 < 256
 
 -- the sixteen words of the sibling block by record i: the block's own, `xor` the record's first sixteen difference words
 abbrev pub siblingWords : List ℕ → List ℕ → ℕ → List ℕ

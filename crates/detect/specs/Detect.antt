@@ -1,7 +1,7 @@
 -- One block with detection: which vectors are tried, which one marks it, and the answer.
-use mathlib.Core.Bool.{Bool, true, false, not, _&&_, _||_}
+use mathlib.Core.Bool.{Bool, false, _&&_, _||_}
 use mathlib.Core.List.{List}
-use Prim.Native.Nat.{ℕ, zero, suc, _+_, _*_, _/_, _%_, _^_}
+use Prim.Native.Nat.{ℕ, _/_, _%_, _^_}
 use lib.Dec.{eqb}
 use lib.ListN.{length, replicate}
 use Rattle.word.specs.Choice.{pick}
@@ -11,7 +11,7 @@ use Rattle.block.specs.Schedule.{wordsOf, scheduleOf}
 use Rattle.block.specs.Compress.{overSchedule}
 use Rattle.sibling.specs.Sibling.{siblingSchedule, recompressed}
 use Rattle.sibling.specs.declared.Ends.{Ends}
-use Rattle.refusal.specs.Refusal.{isNothing, firstOf}
+use Rattle.refusal.specs.Refusal.{isNothing}
 use Rattle.refusal.specs.declared.Refusal.{Refusal}
 use Rattle.refusal.specs.declared.Refusal.the-variants.{Nothing, Size}
 use Rattle.table.specs.Table.{stepsBefore, testtOf, recordsIn, maskNumberAt, testWordAt, dmAt, tableFault}

@@ -1,6 +1,6 @@
 -- A chain of tests, each with its refusal: which number comes out, and exactly when. Assumes nothing.
-use mathlib.Core.Path.{_≡_, refl}
-use mathlib.Core.Logic.{_↔_, Iff·rfl}
+use mathlib.Core.Path.{_≡_, refl, sym, ap, _∙_}
+use mathlib.Core.Logic.{_↔_, Iff·rfl, _⊎_, inl, inr, ⊎-elim}
 use mathlib.Core.Bool.{Bool, true, false, not, false≢true, true≢false}
 use Prim.Native.Nat.{ℕ, _≤_, _<_}
 use native.Mathlib.Omega.{arith}
@@ -71,28 +71,23 @@ pub inside-is : {b : Bool} {P Q : Type 0} → Says b P Q → (r s : Refusal) →
 inside-is {b = true} d r s p = refl
 inside-is {b = false} d r s p = absurd (false≢true (d .on .1 p))
 
+-- a refusal is none, or has a number and either no place or a number from 3 to 5
+kind : (r : Refusal) → (r ≡ Nothing) ⊎ ((isNothing r ≡ false) × ((placeOf r ≡ 0) ⊎ ((3 ≤ numberOf r) × (numberOf r ≤ 5))))
+kind Nothing = inl refl
+kind HasherForm = inr (refl, inl refl)
+kind TableLength = inr (refl, inl refl)
+kind (MaskNumber i) = inr (refl, inr (omega arith, omega arith))
+kind (TestStep i) = inr (refl, inr (omega arith, omega arith))
+kind (DmRule i) = inr (refl, inr (omega arith, omega arith))
+kind MaskCount = inr (refl, inl refl)
+kind MessageLength = inr (refl, inl refl)
+kind Size = inr (refl, inl refl)
+kind SheetLength = inr (refl, inl refl)
+
 -- only one refusal has the number 0
 pub nothing-is : (r : Refusal) → isNothing r ≡ true → r ≡ Nothing
-nothing-is Nothing e = refl
-nothing-is HasherForm e = absurd (false≢true e)
-nothing-is TableLength e = absurd (false≢true e)
-nothing-is (MaskNumber i) e = absurd (false≢true e)
-nothing-is (TestStep i) e = absurd (false≢true e)
-nothing-is (DmRule i) e = absurd (false≢true e)
-nothing-is MaskCount e = absurd (false≢true e)
-nothing-is MessageLength e = absurd (false≢true e)
-nothing-is Size e = absurd (false≢true e)
-nothing-is SheetLength e = absurd (false≢true e)
+nothing-is r e = ⊎-elim (λ n. n) (λ k. absurd (true≢false (sym e ∙ k .0))) (kind r)
 
 -- the place is 0 for every number but 3, 4 and 5
 pub place-none : (r : Refusal) → ((3 ≤ numberOf r) × (numberOf r ≤ 5) → ⊥) → placeOf r ≡ 0
-place-none Nothing h = refl
-place-none HasherForm h = refl
-place-none TableLength h = refl
-place-none (MaskNumber i) h = absurd (h (omega arith, omega arith))
-place-none (TestStep i) h = absurd (h (omega arith, omega arith))
-place-none (DmRule i) h = absurd (h (omega arith, omega arith))
-place-none MaskCount h = refl
-place-none MessageLength h = refl
-place-none Size h = refl
-place-none SheetLength h = refl
+place-none r h = ⊎-elim (λ n. ap placeOf n) (λ k. ⊎-elim (λ z. z) (λ m. absurd (h m)) (k .1)) (kind r)

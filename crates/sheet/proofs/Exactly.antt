@@ -3,7 +3,7 @@ use mathlib.Core.Path.{_≡_, refl, sym, ap, _∙_, subst}
 use mathlib.Core.Bool.{Bool, true, false, true≢false}
 use mathlib.Core.List.{List, []}
 use mathlib.Core.Logic.{_↔_}
-use Prim.Native.Nat.{ℕ, suc, _≤_, _<_}
+use Prim.Native.Nat.{ℕ, _≤_, _<_}
 use native.Mathlib.Nat.{lt-of-not-le, le-of-suc-le-suc}
 use native.Mathlib.Omega.{arith}
 use lib.ListN.{length}
@@ -15,7 +15,7 @@ use Rattle.verdict.specs.declared.Verdict.{Verdict}
 use Rattle.word.proofs.Tests.{unless-true}
 use Rattle.octets.specs.Octets.{sameBytes}
 use Rattle.octets.proofs.Same.{same-exactly}
-use Rattle.sheet.specs.Sheet.{barcodeAt, digestAt, recordsOn, recordFor, onSheet, lookupRefusal, partOf}
+use Rattle.sheet.specs.Sheet.{digestAt, recordsOn, recordFor, onSheet, lookupRefusal, partOf}
 use Rattle.sheet.specs.Exactly.{Accepted, FirstRecord, NoRecord}
 use Rattle.sheet.specs.Compare.{comparedOf}
 use Rattle.sheet.specs.declared.Comparison.the-variants.{Match, Differs, Absent}

@@ -1,11 +1,11 @@
--- A step and its undoing are each other's inverse, for any round function and constant. Assumes nothing.
-use mathlib.Core.Path.{_≡_, refl, sym, ap, ap₂, _∙_, subst}
-use Prim.Native.Nat.{ℕ, _+_, _-_, _%_, _^_, _≤_, _<_}
+-- A step and its undoing are each other's inverse: for any round function and constant, and so for each step of FIPS 180-4. Assumes nothing.
+use mathlib.Core.Path.{_≡_, ap, _∙_}
+use Prim.Native.Nat.{ℕ, _+_, _%_, _^_, _<_}
 use native.Mathlib.Nat.{mod-lt, mod-add-mod, add-mod-mod}
 use native.Mathlib.Omega.{arith}
 use lib.Pow.{pow-pos}
 use Rattle.word.specs.Word.{rotl, _⊞_, _⊟_}
-use Rattle.step.specs.Step.{stepOf, undoOf, stepWith, undoWith, Words}
+use Rattle.step.specs.Step.{stepOf, undoOf, stepWith, undoWith, stepAt, undoAt, fAt, kAt, Words}
 use Rattle.step.specs.declared.Regs.{Regs}
 use Rattle.word.proofs.Sums.{sub-add, add-sub}
 use Rattle.word.proofs.Rotate.{rotl-back, rotl-again, rotl-lt}
@@ -44,3 +44,15 @@ module _ (f : ℕ → ℕ → ℕ → ℕ) (k : ℕ) (s : Regs) (w : ℕ) (h : W
   unfolding undoWith _⊟_
   undo-words =
       record { a-lt = h .b-lt; b-lt = rotl-lt 2 (omega arith) (s .c) (h .c-lt); c-lt = h .d-lt; d-lt = h .e-lt; e-lt = mod-lt _ (pow-pos 32) }
+
+-- step t of FIPS 180-4, of any state of words and any word
+module _ (t : ℕ) (s : Regs) (w : ℕ) (h : Words s) where
+  -- undone, it gives the state before
+  pub undoing-inverts-step : undoAt t (stepAt t s w) w ≡ s
+  unfolding stepAt undoAt
+  undoing-inverts-step = undo-step (fAt t) (kAt t) s w h
+
+  -- done after its undoing, it gives the state again
+  pub step-inverts-undoing : stepAt t (undoAt t s w) w ≡ s
+  unfolding stepAt undoAt
+  step-inverts-undoing = step-undo (fAt t) (kAt t) s w h

@@ -1,14 +1,14 @@
 -- Runs of steps, forward and back: one step at a time, two runs in a row, and each undone by the other. Assumes nothing.
-use mathlib.Core.Path.{_≡_, refl, sym, ap, ap₂, _∙_, subst}
+use mathlib.Core.Path.{_≡_, refl, sym, ap, _∙_}
 use mathlib.Core.List.{List}
 use Prim.Native.Nat.{ℕ, zero, suc, _+_, _-_, _≤_, _<_}
-use native.Mathlib.Nat.{zero-add, add-zero, suc-add, add-suc, add-assoc, le-refl}
+use native.Mathlib.Nat.{zero-add, add-zero, suc-add, add-suc, add-assoc}
 use native.Mathlib.Numerals.{add-one}
 use native.Mathlib.Omega.{arith}
 use lib.ListN.{getD}
 use Rattle.step.specs.Step.{stepAt, undoAt, stepsOf, undosOf, fAt, kAt, Words}
 use Rattle.step.specs.declared.Regs.{Regs}
-use Rattle.step.proofs.Inverse.{step-undo, undo-step, step-words, undo-words}
+use Rattle.step.proofs.Inverse.{undoing-inverts-step, step-inverts-undoing, step-words, undo-words}
 
 -- the turns of the two loops
 module _ (w : List ℕ) (t : ℕ) (s : Regs) where
@@ -77,7 +77,7 @@ module _ (w : List ℕ) where
       let x = getD w (t + n) 0 in
       steps-last w n t (undosOf w t (suc n) s)
       ∙ ap (λ (q : Regs). stepAt (t + n) q (getD w (t + n) 0)) (steps-undos n t (undoAt k s x) (undo-words (fAt k) (kAt k) s x h))
-      ∙ step-undo (fAt k) (kAt k) s x h
+      ∙ step-inverts-undoing k s x h
 
   -- n steps in a row, done and undone again
   pub undos-steps : (n t : ℕ) (s : Regs) → Words s → undosOf w t n (stepsOf w t n s) ≡ s
@@ -86,5 +86,5 @@ module _ (w : List ℕ) where
   undos-steps (suc n) t s h =
       let k = t + n in
       ap (undosOf w t (suc n)) (steps-last w n t s)
-      ∙ ap (undosOf w t n) (undo-step (fAt k) (kAt k) (stepsOf w t n s) (getD w k 0) (steps-words n t s h))
+      ∙ ap (undosOf w t n) (undoing-inverts-step k (stepsOf w t n s) (getD w k 0) (steps-words n t s h))
       ∙ undos-steps n t s h

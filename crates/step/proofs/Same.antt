@@ -1,7 +1,6 @@
 -- The test whether two fives of words are the same says whether they are equal. Assumes nothing.
 use mathlib.Core.Path.{_≡_, refl}
 use mathlib.Core.Bool.{true}
-use Prim.Native.Nat.{ℕ}
 use lib.Dec.{eqb}
 use borrow.Author.Tests.{eqb-true, eq-eqb}
 use Rattle.word.proofs.Tests.{both-true}

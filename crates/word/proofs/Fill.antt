@@ -1,5 +1,5 @@
 -- Lists of the values of a function: their elements, and an array that is filled with them from the front. Assumes nothing.
-use mathlib.Core.Path.{_≡_, refl, sym, ap, _∙_, subst}
+use mathlib.Core.Path.{_≡_, refl, sym, ap, ap₂, _∙_, subst}
 use mathlib.Core.Logic.{⊎-elim}
 use mathlib.Core.List.{List, [], _∷_, _++_}
 use Prim.Native.Nat.{ℕ, zero, suc, _+_, _≤_, _<_}
@@ -32,6 +32,13 @@ list-take f zero k h =
 list-take f (suc n) k h =
     ⊎-elim (λ e. rw e (take-all (suc n) (listOf f (suc n)) (omega (arith, list-length f (suc n)))))
     (λ l. take-append-le k (listOf f n) (f n ∷ []) (omega (arith, list-length f n)) ∙ list-take f n k (omega arith)) (eq-or-lt-of-le h)
+
+-- lists of the values of equal functions are equal
+pub list-same : (f g : ℕ → ℕ) (n : ℕ) → ((i : ℕ) → i < n → f i ≡ g i) → listOf f n ≡ listOf g n
+unfolding listOf
+list-same f g zero h = refl
+list-same f g (suc n) h =
+    ap₂ (λ (xs : List ℕ) (x : ℕ). xs ++ (x ∷ [])) (list-same f g n (λ i l. h i (omega arith))) (h n (omega arith))
 
 -- the first i of n places have the values of f
 pub record Filled (f : ℕ → ℕ) (n : ℕ) (v : List ℕ) (i : ℕ) : Type 0 where

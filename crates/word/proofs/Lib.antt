@@ -4,5 +4,5 @@ pub mod Rounds
 pub mod Sums
 pub mod Xor
 pub mod Tests
-pub mod Words
+pub mod Below
 pub mod Fill

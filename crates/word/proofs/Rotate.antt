@@ -1,7 +1,7 @@
 -- Rotations: the two shifted parts have no bit in common; rotating on by what is left of 32 gives the word again; and a rotation
 -- goes through `xor`. Assumes nothing.
-use mathlib.Core.Path.{_≡_, refl, sym, ap, ap₂, _∙_, subst}
-use Prim.Native.Nat.{ℕ, zero, suc, _+_, _-_, _*_, _/_, _%_, _^_, _≤_, _<_}
+use mathlib.Core.Path.{_≡_, sym, ap, ap₂, _∙_, subst}
+use Prim.Native.Nat.{ℕ, _+_, _-_, _*_, _/_, _%_, _^_, _<_}
 use native.Mathlib.Nat.{mul-mod-left, add-zero, add-comm, mod-lt}
 use native.Mathlib.Omega.{arith}
 use lib.Arith.{digits-lt}

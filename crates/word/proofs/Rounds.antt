@@ -1,10 +1,10 @@
 -- The round functions as the code computes them are those of FIPS 180-4. Assumes nothing.
-use mathlib.Core.Path.{_≡_, refl, sym, ap, ap₂, _∙_, subst}
+use mathlib.Core.Path.{_≡_, sym, ap, _∙_}
 use Prim.Native.Nat.{ℕ, _+_, _%_, _^_, _<_}
 use native.Mathlib.Nat.{mod-eq-of-lt}
 use lib.Bits.{bitAnd, bitXor, xor-disjoint}
-use Rattle.word.specs.Word.{Ch, Maj, Parity, not32}
-use Rattle.word.proofs.Digits.{Ex, b, c, d, nil, and, xor, non, tabled, word-lt}
+use Rattle.word.specs.Word.{Ch, Maj, not32}
+use Rattle.word.proofs.Digits.{b, c, d, nil, and, xor, non, tabled, word-lt}
 
 module _ (x y z : ℕ) (hx : x < 2 ^ 32) (hy : y < 2 ^ 32) (hz : z < 2 ^ 32) where
   pub choose : bitXor z (bitAnd x (bitXor y z)) ≡ Ch x y z

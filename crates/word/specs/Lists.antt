@@ -1,4 +1,4 @@
--- Lists made from a function, and of words.
+-- Lists made from a function, of words and of bytes.
 use mathlib.Core.List.{List, [], _∷_, _++_}
 use Prim.Native.Nat.{ℕ, zero, suc, _^_, _<_}
 use lib.Bits.{bitXor}
@@ -13,6 +13,14 @@ listOf f (suc n) = listOf f n ++ (f n ∷ [])
 abbrev pub xorWords : ℕ → List ℕ → List ℕ → List ℕ
 xorWords n x y = listOf (λ t. bitXor (getD x t 0) (getD y t 0)) n
 
+-- every element is below n
+abbrev pub AllBelow : ℕ → List ℕ → Type 0
+AllBelow n xs = (i : ℕ) → getD xs i 0 < n
+
 -- every element is a word
 abbrev pub AllWords : List ℕ → Type 0
-AllWords xs = (i : ℕ) → getD xs i 0 < 2 ^ 32
+AllWords = AllBelow (2 ^ 32)
+
+-- every element is a byte
+abbrev pub AllBytes : List ℕ → Type 0
+AllBytes = AllBelow 256

@@ -1,5 +1,4 @@
 -- `detect::mitigated` meets its contract. Assumes nothing.
-use mathlib.Core.Path.{_∙_}
 use borrow.Author.Needs.{needs}
 use borrow.Author.Tests.{not-true, not-false}
 use Rattle.detect.proofs.mitigated.Statement.{statement}

@@ -1,21 +1,15 @@
+-- `detect::record_marks` meets its contract. Assumes nothing.
 use borrow.Author.Needs.{needs}
 use Rattle.detect.proofs.Marks.{marks-kept}
 use Rattle.detect.proofs.record_marks.Statement.{statement}
 use Rattle.detect.proofs.record_marks.Tie as tie
-use Rattle.detect.proofs.record_marks.Reads as reads
-use Rattle.detect.proofs.record_marks.Lts as lts
-use Rattle.detect.proofs.sibling_ends.Reads as sibling-ends-reads
-use Rattle.step.proofs.same_regs.Reads as same-regs-reads
 
--- src/lib.rt:100:9
 sibling-ends-requires : tie.Need-sibling-ends-requires
 sibling-ends-requires c κs = search needs
 
--- src/lib.rt:101:8
 same-regs-requires : tie.Need-same-regs-requires
 same-regs-requires c κs = search needs
 
--- src/lib.rt:102:9
 returns : tie.Need-returns
 returns c =
     let b = c .before .before in

@@ -1,7 +1,7 @@
 -- `detect::search` meets its contract. The invariant: what is left of the search, from here, gives what the whole gives. Assumes nothing.
-use mathlib.Core.Path.{_≡_, refl, sym, ap, _∙_}
+use mathlib.Core.Path.{_≡_, sym, _∙_}
 use mathlib.Core.Logic.{⊎-elim}
-use Prim.Native.Nat.{ℕ, _+_, _-_, _*_, _≤_, _<_}
+use Prim.Native.Nat.{_-_, _≤_}
 use native.Mathlib.Nat.{sub-zero}
 use native.Mathlib.Omega.{arith}
 use lib.ListN.{length}
@@ -12,10 +12,6 @@ use Rattle.detect.specs.Detect.{selects, marks, foundIn}
 use Rattle.detect.proofs.Turns.{turn-skip, turn-try, turn-hit, turn-done}
 use Rattle.detect.proofs.search.Statement.{statement}
 use Rattle.detect.proofs.search.Tie as tie
-use Rattle.detect.proofs.search.Reads as reads
-use Rattle.detect.proofs.search.Lts as lts
-use Rattle.detect.proofs.has_bit.Reads as has-bit-reads
-use Rattle.detect.proofs.record_marks.Reads as record-marks-reads
 
 abbrev Inv-loop : tie.InvT-loop
 Inv-loop reduced table h s w mask tried₀ i₀ i-end tried i =

@@ -1,37 +1,27 @@
+-- `step::step_with` meets its contract. Assumes nothing.
 use Rattle.step.specs.Step.{stepWith}
 use borrow.Author.Needs.{needs}
 use Rattle.step.proofs.step_with.Statement.{statement}
 use Rattle.step.proofs.step_with.Tie as tie
-use Rattle.step.proofs.step_with.Reads as reads
-use Rattle.step.proofs.step_with.Lts as lts
-use Rattle.word.proofs.add.Reads as add-reads
-use Rattle.word.proofs.rotate_left.Reads as rotate-left-reads
 
--- src/lib.rt:60:31
 rotate-left-requires : tie.Need-rotate-left-requires
 rotate-left-requires c κs = search needs
 
--- src/lib.rt:60:27
 add-requires : tie.Need-add-requires
 add-requires c κs = search needs
 
--- src/lib.rt:60:23
 add-requires-2 : tie.Need-add-requires-2
 add-requires-2 c κs = search needs
 
--- src/lib.rt:60:19
 add-requires-3 : tie.Need-add-requires-3
 add-requires-3 c κs = search needs
 
--- src/lib.rt:60:9
 add-requires-4 : tie.Need-add-requires-4
 add-requires-4 c κs = search needs
 
--- src/lib.rt:64:12
 rotate-left-requires-2 : tie.Need-rotate-left-requires-2
 rotate-left-requires-2 c κs = search needs
 
--- src/lib.rt:57:1
 returns : tie.Need-returns
 unfolding stepWith
 returns c =

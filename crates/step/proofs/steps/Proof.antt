@@ -1,9 +1,7 @@
 -- `step::steps` meets its contract. The invariant: the steps that are left, from the state here, give what all give from the start.
 -- Assumes nothing.
-use mathlib.Core.Path.{_≡_, refl, sym, ap, _∙_}
-use Prim.Native.Nat.{ℕ, _+_, _-_, _≤_, _<_}
-use native.Mathlib.Omega.{arith}
-use lib.ListN.{getD}
+use mathlib.Core.Path.{_≡_, refl, sym, _∙_}
+use Prim.Native.Nat.{_-_, _≤_}
 use borrow.Author.Needs.{needs}
 use Rattle.step.specs.Step.{stepsOf}
 use Rattle.step.proofs.Runs.{steps-more, steps-done}

@@ -1,3 +1,4 @@
+-- `step::undos` meets its contract. Assumes nothing.
 use mathlib.Core.Path.{_≡_, refl, sym, _∙_}
 use Prim.Native.Nat.{_-_, _≤_}
 use borrow.Author.Needs.{needs}
@@ -5,9 +6,6 @@ use Rattle.step.specs.Step.{undosOf}
 use Rattle.step.proofs.Runs.{undos-more, undos-done}
 use Rattle.step.proofs.undos.Statement.{statement}
 use Rattle.step.proofs.undos.Tie as tie
-use Rattle.step.proofs.undos.Reads as reads
-use Rattle.step.proofs.undos.Lts as lts
-use Rattle.step.proofs.undo.Reads as undo-reads
 
 abbrev Inv-loop : tie.InvT-loop
 Inv-loop from to w s₀ t₀ s t = (from ≤ t) × (t ≤ to) × (undosOf w from (t - from) s ≡ undosOf w from (to - from) s₀)
@@ -15,38 +13,30 @@ Inv-loop from to w s₀ t₀ s t = (from ≤ t) × (t ≤ to) × (undosOf w from
 abbrev μ-loop : tie.MeasureT-loop
 μ-loop from to w s₀ t₀ s t = t
 
--- src/lib.rt:140:5
 loop-holds : tie.Need-loop-holds Inv-loop μ-loop
 loop-holds c = (search needs, search needs, refl)
 
--- src/lib.rt:141:9
 sub-t : tie.Need-sub-t Inv-loop μ-loop
 sub-t c = search needs
 
--- src/lib.rt:142:24
 mul-undo : tie.Need-mul-undo Inv-loop μ-loop
 mul-undo c = search needs
 
--- src/lib.rt:142:24
 element-copy-out-undo : tie.Need-element-copy-out-undo Inv-loop μ-loop
 element-copy-out-undo c = search needs
 
--- src/lib.rt:142:9
 undo-requires : tie.Need-undo-requires Inv-loop μ-loop
 undo-requires c κs = search needs
 
--- src/lib.rt:140:5
 loop-less : tie.Need-loop-less Inv-loop μ-loop
 loop-less c = search needs
 
--- src/lib.rt:140:5
 loop-again : tie.Need-loop-again Inv-loop μ-loop
 loop-again c =
     let h = c .before .before .before in
     let a = h .before .args in
     (search needs, search needs, rw (c .undo .ensures) (sym (undos-more (a .w .now) (h .loop .t) (h .loop .s) (a .from) (search needs)) ∙ h .loop .inv .2))
 
--- src/lib.rt:134:1
 returns : tie.Need-returns Inv-loop μ-loop
 returns c =
     let h = c .before in

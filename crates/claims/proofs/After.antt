@@ -2,15 +2,16 @@
 use mathlib.Core.Path.{_≡_, refl, ap, _∙_}
 use mathlib.Core.Bool.{Bool, true, false, _||_, or-false}
 use mathlib.Core.List.{List}
-use Prim.Native.Nat.{ℕ, _+_, _-_, _/_, _%_, _≤_}
+use Prim.Native.Nat.{ℕ, _+_, _/_, _%_, _≤_}
 use native.Mathlib.Omega.{arith}
-use lib.ListN.{length, replicate, length-append, length-replicate}
+use lib.ListN.{length}
 use Rattle.word.specs.Choice.{pick}
 use Rattle.stream.specs.Fold.{lookedAt, folded}
 use Rattle.stream.specs.declared.Chain.{Chain}
 use Rattle.stream.specs.declared.Flags.{Flags}
-use Rattle.hasher.specs.Hasher.{wellFormed, taken, streamOf, chainOf, updateRefusal, absorbed, updated}
+use Rattle.hasher.specs.Hasher.{wellFormed, streamOf, chainOf, updateRefusal, absorbed, updated}
 use Rattle.hasher.specs.declared.Hasher.{Hasher}
+use Rattle.hasher.proofs.Absorbed.{pending-after}
 use Rattle.hasher.proofs.Formed.{Formed, formed, moved-formed}
 use Rattle.hasher.proofs.Moves.{restOf, rest-length, stream-long, chainAfter, absorbed-is}
 use Rattle.hasher.proofs.Taken.{of-refusal, Taken, refusal-is, update-taken}
@@ -43,14 +44,7 @@ module _ (h : Hasher) (bytes table masks : List ℕ) where
   flags-after = rw (absorbed-is h bytes table masks)
 
   pub sized-after : Sized (absorbed h bytes table masks)
-  sized-after =
-      let r = restOf (streamOf h bytes) in
-      let z : ℕ = 0 in
-      rw (absorbed-is h bytes table masks)
-      (record {
-        words-size = refl;
-        pending-size = omega (arith, length-append r (replicate (64 - length r) 0), length-replicate (64 - length r) z, rest-length (streamOf h bytes));
-      })
+  sized-after = record { words-size = rw (absorbed-is h bytes table masks); pending-size = pending-after h bytes table masks }
 
   pub fill-after : length (h .pending) ≡ 64 → h .fill ≤ 63 → absorbed h bytes table masks .fill ≡ (h .fill + length bytes) % 64
   fill-after long below =
@@ -59,11 +53,6 @@ module _ (h : Hasher) (bytes table masks : List ℕ) where
   module _ (long : length (h .pending) ≡ 64) (a : Taken h bytes table masks) where
     sure : Formed h
     sure = formed h (a .well)
-
-    pub taken-after : taken (absorbed h bytes table masks) ≡ taken h + length bytes
-    taken-after =
-        let l = stream-long (h .pending) bytes (h .fill) long (sure .fill-le) in
-        rw (absorbed-is h bytes table masks) (omega (arith, rest-length (streamOf h bytes)))
 
     pub formed-after : wellFormed (absorbed h bytes table masks) ≡ true
     formed-after =

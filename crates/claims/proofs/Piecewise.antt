@@ -13,13 +13,14 @@ use Rattle.stream.specs.Flags.{usesMasks}
 use Rattle.hasher.specs.Hasher.{mostBytes, wellFormed, taken, tableRefusal, absorbed, updated}
 use Rattle.hasher.specs.declared.Hasher.{Hasher}
 use Rattle.hasher.specs.declared.Updated.{Updated}
+use Rattle.hasher.proofs.Absorbed.{taken-after}
 use Rattle.hasher.proofs.Formed.{formed}
 use Rattle.hasher.proofs.Moves.{stream-long}
 use Rattle.hasher.proofs.Taken.{of-refusal, Taken, update-taken, taken-update}
 use Rattle.claims.specs.Sound.{Sized, Sound}
 use Rattle.claims.specs.Pieces.{Piece, bytesOf, lentMasks, piecewise, Counted}
 use Rattle.claims.proofs.Updates.{absorb-cut}
-use Rattle.claims.proofs.After.{flags-after, sized-after, fill-after, taken-after, formed-after}
+use Rattle.claims.proofs.After.{flags-after, sized-after, fill-after, formed-after}
 use Rattle.claims.proofs.Empty.{absorb-none}
 
 pub piecewise-nil : (h : Hasher) (table : List ℕ) → piecewise h table [] ≡ record { refusal = Nothing; hasher = h }

@@ -2,15 +2,15 @@
 use Prim.Native.Nat.{_-_, _^_, _<_}
 use native.Mathlib.Numerals.{add-one}
 use borrow.Author.Needs.{needs}
-use Rattle.purserumble.proofs.Places.{SoFar, none-yet, one-more}
+use Rattle.program.proofs.Places.{SoFar, none-yet, one-more}
 use Rattle.purserumble.proofs.arguments.Statement.{statement}
 use Rattle.purserumble.proofs.arguments.Tie as tie
 
 abbrev Inv-loop : tie.InvT-loop
-Inv-loop setting₀ place₀ i₀ i-end setting place i = SoFar setting place i × (i-end < 2 ^ 64)
+Inv-loop asked₀ i₀ i-end asked i = SoFar asked i × (i-end < 2 ^ 64)
 
 abbrev μ-loop : tie.MeasureT-loop
-μ-loop setting₀ place₀ i₀ i-end setting place i = i-end - i
+μ-loop asked₀ i₀ i-end asked i = i-end - i
 
 new-requires : tie.Need-new-requires Inv-loop μ-loop
 new-requires c κs = search needs
@@ -27,9 +27,6 @@ argument-requires c κs = search needs
 with-requires : tie.Need-with-requires Inv-loop μ-loop
 with-requires c κs = search needs
 
-placed-requires : tie.Need-placed-requires Inv-loop μ-loop
-placed-requires c κs = search needs
-
 add-i : tie.Need-add-i Inv-loop μ-loop
 add-i c = search needs
 
@@ -38,11 +35,11 @@ loop-less c = search needs
 
 loop-again : tie.Need-loop-again Inv-loop μ-loop
 loop-again c =
-    let l = c .before .before .before .before .loop .inv in
-    (rw (add-one, c .placed .ensures, c .before .with .ensures) (one-more (l .0) (c .before .before .argument .ensures)), search needs)
+    let l = c .before .before .before .loop .inv in
+    (rw (add-one, c .with .ensures) (one-more (l .0) (c .before .argument .ensures)), search needs)
 
 returns : tie.Need-returns Inv-loop μ-loop
-returns c = let l = c .before .loop .inv .0 in record { arguments = l .arguments; asked = l .asked; placed = l .placed }
+returns c = let l = c .before .loop .inv .0 in record { arguments = l .arguments; asked = l .asked }
 
 pub arguments-spec : {M : Type 1} → statement M
 arguments-spec =
@@ -55,7 +52,6 @@ arguments-spec =
     loop-holds
     argument-requires
     with-requires
-    placed-requires
     add-i
     loop-less
     loop-again

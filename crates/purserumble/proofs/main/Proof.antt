@@ -1,17 +1,17 @@
 -- `purserumble::main` meets its contract. Assumes nothing.
 use mathlib.Core.List.{List}
 use Prim.Native.Nat.{ℕ}
-use Rattle.console.specs.Line.{lineOf}
-use Rattle.console.proofs.Lines.{shown, line-fits}
+use Rattle.line.specs.Line.{lineOf}
+use Rattle.line.proofs.Lines.{shown, line-fits}
 use borrow.Author.Needs.{needs}
 use Rattle.purserumble.proofs.main.Statement.{statement}
 use Rattle.purserumble.proofs.main.Tie as tie
 
-abbrev line : tie.After-respond → List ℕ
-line c = lineOf (c .respond .result .saying) (c .respond .result .digest)
+abbrev line : tie.After-program-reply → List ℕ
+line c = lineOf (c .program-reply .result .saying) (c .program-reply .result .digest)
 
-respond-requires : tie.Need-respond-requires
-respond-requires c κs = search needs
+program-reply-requires : tie.Need-program-reply-requires
+program-reply-requires c κs = search needs
 
 line-of-requires : tie.Need-line-of-requires
 line-of-requires c κs = search needs
@@ -32,7 +32,7 @@ pub main-spec : {M : Type 1} → statement M
 main-spec =
     tie.close
     (tie.spec
-    respond-requires
+    program-reply-requires
     line-of-requires
     array-share-prefix-bytes
     slice-aggregate-write-all

@@ -8,8 +8,8 @@ use mir.Syntax.{w64}
 use mir.Val.{toZ, ofZ}
 use borrow.Author.Tests.{eq-eqb, ne-eqb}
 use borrow.Rule.Slice.PartMut.{midOf, putMid, take-put}
-use Rattle.purserumble.specs.Reads.{Read, readOf}
-use Rattle.purserumble.proofs.Filling.{SoFar, none-yet, fills-all, fills-end, fills-more}
+use Rattle.program.specs.Reads.{Read, readOf}
+use Rattle.program.proofs.Filling.{SoFar, none-yet, fills-all, fills-end, fills-more}
 use Rattle.purserumble.proofs.read_file.Statement.{statement}
 use Rattle.purserumble.proofs.read_file.Tie as tie
 

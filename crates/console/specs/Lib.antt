@@ -1,2 +1,0 @@
-pub mod Arguments
-pub mod Line

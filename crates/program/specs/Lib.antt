@@ -1,0 +1,4 @@
+pub mod Reads
+pub mod Files
+pub mod Given
+pub mod Reply

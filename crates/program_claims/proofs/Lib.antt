@@ -1,0 +1,4 @@
+pub mod Ends
+pub mod Verdicts
+pub mod Lines
+pub mod Contents

@@ -1,0 +1,1 @@
+// What is claimed of the program, as theorems over the meanings of `program`: all of it is in proofs/, and there is no code.

@@ -1,9 +1,0 @@
-pub mod Signs
-pub mod Hearing
-pub mod Filling
-pub mod Places
-pub mod Answered
-pub mod Ends
-pub mod Verdicts
-pub mod Lines
-pub mod Contents

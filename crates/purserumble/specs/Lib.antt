@@ -1,4 +1,0 @@
-pub mod Reads
-pub mod Files
-pub mod Given
-pub mod Run

@@ -1,5 +1,6 @@
 -- The paper's number of each refusal, and the place that it names.
-use mathlib.Core.Bool.{Bool}
+use mathlib.Core.Bool.{Bool, false, _||_}
+use mathlib.Core.List.{List, [], _∷_}
 use Prim.Native.Nat.{ℕ}
 use lib.Dec.{eqb}
 use Rattle.word.specs.Choice.{pick}
@@ -39,3 +40,12 @@ isNothing r = eqb (numberOf r) 0
 -- the first refusal of two, the second only where the first is none
 abbrev pub firstOf : Refusal → Refusal → Refusal
 firstOf r s = pick (isNothing r) s r
+
+-- the numbers that a table can give
+abbrev pub tableNumbers : List ℕ
+tableNumbers = 2 ∷ 3 ∷ 4 ∷ 5 ∷ []
+
+-- n is one of the numbers listed
+abbrev pub oneOf : List ℕ → ℕ → Bool
+oneOf [] n = false
+oneOf (x ∷ xs) n = eqb x n || oneOf xs n

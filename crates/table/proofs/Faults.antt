@@ -2,7 +2,7 @@
 use mathlib.Core.Path.{_≡_, refl, sym, ap, _∙_}
 use mathlib.Core.Logic.{_⊎_, inl, inr, ⊎-elim, ⊎-map, _↔_}
 use mathlib.Core.Bool.{Bool, true, false, not}
-use mathlib.Core.List.{List}
+use mathlib.Core.List.{List, _∷_}
 use Prim.Native.Nat.{ℕ, zero, suc, _+_, _-_, _*_, _%_, _≤_, _<_}
 use native.Mathlib.Nat.{sub-zero, eq-or-lt-of-le}
 use native.Mathlib.Numerals.{add-one}
@@ -10,7 +10,7 @@ use native.Mathlib.Omega.{arith}
 use lib.Dec.{ltb, leb}
 use lib.ListN.{length}
 use borrow.Author.Tests.{ltb-true, leb-true, eqb-true, ltb-false, leb-false, eqb-false}
-use Rattle.refusal.specs.Refusal.{numberOf, isNothing}
+use Rattle.refusal.specs.Refusal.{numberOf, isNothing, tableNumbers, oneOf}
 use Rattle.refusal.specs.declared.Refusal.{Refusal}
 use Rattle.refusal.specs.declared.Refusal.the-variants.{Nothing, TableLength, MaskNumber, TestStep, DmRule}
 use Rattle.table.specs.Limits.{recordWords, mostRecords}
@@ -77,6 +77,10 @@ module _ (table : List ℕ) where
       → ((k : ℕ) → P (DmRule k)) → P (tableFault table)
   unfolding tableFault
   of-fault P o l m t d = of-either P (not (wholeRecords (length table))) _ _ l (of-first P o m t d (recordsIn (length table)) 0)
+
+  -- so its number is 0 or one that a table can give
+  pub fault-numbers : oneOf (0 ∷ tableNumbers) (numberOf (tableFault table)) ≡ true
+  fault-numbers = of-fault (λ r. oneOf (0 ∷ tableNumbers) (numberOf r) ≡ true) refl refl (λ k. refl) (λ k. refl) (λ k. refl)
 
   -- the length is what is wrong exactly when it is 0, above the most, or no whole number of records
   pub is-2 : (numberOf (tableFault table) ≡ 2) ↔ BadLength (length table)

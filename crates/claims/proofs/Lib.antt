@@ -1,5 +1,5 @@
 -- the theorems, a file for each group
-pub mod Bench
+pub mod BenchChecks
 pub mod Demand3
 pub mod OneBlock
 pub mod Siblings

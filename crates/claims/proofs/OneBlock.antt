@@ -26,7 +26,7 @@ use Rattle.detect.specs.declared.Mode.{Mode}
 use Rattle.detect.specs.declared.OneBlock.{OneBlock}
 use Rattle.detect.specs.Ended.{Ended}
 use Rattle.detect.proofs.Ended.{found-ended, some-marked, none-tried}
-use Rattle.hasher.proofs.Taken.{of-refusal}
+use Rattle.refusal.proofs.Passed.{of-refusal}
 
 module _ (mode : Mode) (table : List ℕ) (h : Regs) (block : List ℕ) (mask : ℕ) where
   -- the first selected record that marks ends the search; tried counts the selected ones up to it, or all

@@ -4,10 +4,10 @@ use mathlib.Core.List.{List}
 use Prim.Native.Nat.{ℕ, _+_, _%_, _≤_}
 use native.Mathlib.Omega.{arith}
 use lib.ListN.{length}
-use Rattle.stream.specs.Fips.{zerosFor, padded}
-use Rattle.finish.proofs.Padded.{padded-blocks}
+use Rattle.fips.specs.Fips.{zerosFor, padded}
+use Rattle.fips.proofs.Padded.{padded-blocks}
+use Rattle.one_shot.specs.Whole.{blocksOf}
 use Rattle.claims.specs.Marked.{blocksIn}
-use Rattle.claims.specs.Refusals.{blocksOf}
 
 -- After the byte 80 and the zeros, 8 bytes are left to a whole block.
 pub zeros-right : (n : ℕ) → (n + 1 + zerosFor n) % 64 ≡ 56

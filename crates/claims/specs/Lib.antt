@@ -7,4 +7,4 @@ pub mod Settings
 pub mod Message
 pub mod Control
 pub mod Settled
-pub mod Bench
+pub mod BenchChecks

@@ -1,14 +1,15 @@
--- A hasher with its masks on or off, and masks that select every vector.
+-- A hasher with its masks on or off, and loans with masks that select every vector.
 use mathlib.Core.List.{List}
 use Prim.Native.Nat.{ℕ}
 use lib.ListN.{length, replicate}
-use Rattle.stream.specs.Flags.{withMasks}
+use Rattle.fips.specs.Tail.{tailBlocks}
+use Rattle.flags.specs.Flags.{withMasks}
+use Rattle.flags.specs.declared.Masks.{Masks}
+use Rattle.flags.specs.declared.Masks.the-variants.{All, Lent}
+use Rattle.stream.specs.Loan.{Loan, lend}
 use Rattle.stream.specs.Fold.{allBits}
-use Rattle.stream.specs.declared.Masks.{Masks}
-use Rattle.stream.specs.declared.Masks.the-variants.{All, Lent}
-use Rattle.hasher.specs.Hasher.{blocksFilled}
 use Rattle.hasher.specs.declared.Hasher.{Hasher}
-use Rattle.finish.specs.Finish.{tailBlocks}
+use Rattle.update.specs.Update.{blocksFilled}
 
 -- the hasher with another masks setting, and all else as it was
 abbrev pub setMasks : Hasher → Masks → Hasher
@@ -23,14 +24,14 @@ masksOff h = setMasks h All
 abbrev pub masksOn : Hasher → Hasher
 masksOn h = setMasks h Lent
 
--- every bit, for each of n blocks
-abbrev pub everyBit : ℕ → List ℕ
-everyBit n = replicate n allBits
+-- the loan with every bit for each of n blocks, in place of its masks
+abbrev pub everyBit : ℕ → Loan → Loan
+everyBit n l = lend (l .tables) (replicate n allBits)
 
 -- for each block that an update with these bytes compresses
-abbrev pub everyBlock : Hasher → List ℕ → List ℕ
-everyBlock h bytes = everyBit (blocksFilled h (length bytes))
+abbrev pub everyBlock : Hasher → List ℕ → Loan → Loan
+everyBlock h bytes l = everyBit (blocksFilled h (length bytes)) l
 
 -- for each of the last blocks, which a finish compresses
-abbrev pub everyLast : Hasher → List ℕ
-everyLast h = everyBit (tailBlocks (h .fill))
+abbrev pub everyLast : Hasher → Loan → Loan
+everyLast h l = everyBit (tailBlocks (h .fill)) l

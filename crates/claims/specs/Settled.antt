@@ -7,7 +7,7 @@ use denote.Triple.Clauses.{AtExit}
 use borrow.Fn.Kinds.{PK, RK, Out, Dens, resT, endedOf}
 
 -- two results x and y, with the parameters at exit d and e, that a contract allows on the same arguments
-pub record Two (n : ℕ) (ps : List (PK n)) (r : RK n) (contract : Out n ps r) : Type 0 where
+pub record TwoResults (n : ℕ) (ps : List (PK n)) (r : RK n) (contract : Out n ps r) : Type 0 where
   pub lifetimes : Lfts n
   pub args : Dens lifetimes ps
   pub x : resT r lifetimes .Denot
@@ -19,4 +19,8 @@ pub record Two (n : ℕ) (ps : List (PK n)) (r : RK n) (contract : Out n ps r) :
 
 -- any two results agree
 abbrev pub Settled : (n : ℕ) (ps : List (PK n)) (r : RK n) → Out n ps r → Type 0
-Settled n ps r contract = (t : Two n ps r contract) → t .x ≡ t .y
+Settled n ps r contract = (t : TwoResults n ps r contract) → t .x ≡ t .y
+
+-- a contract that is one equation, of the result with a meaning of the arguments, and says nothing else
+abbrev pub Equation : (n : ℕ) (ps : List (PK n)) (r : RK n) → ((κs : Lfts n) → Dens κs ps → resT r κs .Denot) → Out n ps r
+Equation n ps r meaning = λ κs args x d. x ≡ meaning κs args

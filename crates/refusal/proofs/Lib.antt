@@ -1,3 +1,4 @@
 pub mod Chains
 pub mod Passed
 pub mod Small
+pub mod Numbers

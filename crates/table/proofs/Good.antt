@@ -7,7 +7,8 @@ use Prim.Native.Nat.{ℕ}
 use native.Mathlib.Nat.{div-add-mod}
 use native.Mathlib.Omega.{arith}
 use lib.ListN.{length}
-use Rattle.refusal.specs.Refusal.{isNothing}
+use borrow.Author.Tests.{eq-eqb}
+use Rattle.refusal.specs.Refusal.{numberOf, isNothing}
 use Rattle.refusal.specs.declared.Refusal.the-variants.{Nothing}
 use Rattle.table.specs.Limits.{recordWords}
 use Rattle.table.specs.Table.{stepsBefore, testtOf, recordsIn, wholeRecords, tableFault}
@@ -49,3 +50,7 @@ module _ (table : List ℕ) where
         ⊎-elim (λ e. omega arith) (⊎-elim (λ e. omega arith) (λ e. e (omega arith))) (not-whole (length table) .0 w)))
         (g .each),
   )
+
+  -- and so has the number 0
+  pub table-0 : (numberOf (tableFault table) ≡ 0) ↔ GoodTable table
+  table-0 = (λ e. good-table (eq-eqb (numberOf (tableFault table)) 0 e), λ g. ap numberOf (accepted .1 g))

@@ -7,7 +7,7 @@ use Rattle.word.specs.Word.{rotl, Ch, Maj}
 use Rattle.step.specs.Step.{stepAt, undoAt}
 use Rattle.step.specs.declared.Regs.{Regs}
 use Rattle.block.specs.Schedule.{scheduled}
-use Rattle.stream.specs.Fips.{padded}
+use Rattle.fips.specs.Fips.{padded}
 
 -- five zeros
 abbrev pub zeros : Regs

@@ -4,10 +4,10 @@ use Prim.Native.Nat.{ℕ, _^_, _<_}
 use native.Mathlib.Nat.{mod-eq-of-lt}
 use lib.Bits.{bitAnd, and-comm, and-mask, xor-zero-r}
 use Rattle.word.specs.Word.{rotl, not32, Ch, Maj, _⊟_}
+use Rattle.octets.specs.Octets.{bytes64}
 use Rattle.step.specs.Step.{stepAt, undoAt, stepWith, undoWith, fAt, kAt}
 use Rattle.block.specs.Schedule.{scheduled}
-use Rattle.stream.specs.Fips.{be64}
-use Rattle.claims.specs.Bench.{checks, Hold}
+use Rattle.claims.specs.BenchChecks.{checks, Hold}
 
 -- choose with every bit of b set
 chosen : (c d : ℕ) → c < 2 ^ 32 → Ch 0xFFFFFFFF c d ≡ c
@@ -16,6 +16,6 @@ chosen c d h =
     xor-zero-r (bitAnd 0xFFFFFFFF c) ∙ and-comm 0xFFFFFFFF c ∙ and-mask c 32 ∙ mod-eq-of-lt h
 
 pub bench : Hold checks
-unfolding rotl not32 Ch Maj _⊟_ stepAt undoAt stepWith undoWith fAt kAt scheduled be64
+unfolding rotl not32 Ch Maj _⊟_ stepAt undoAt stepWith undoWith fAt kAt scheduled bytes64
 bench =
     (refl, (refl, (refl, (chosen, (refl, (refl, (refl, (refl, (refl, (refl, (refl, (refl, (refl, (refl, (refl, (refl, tt))))))))))))))))

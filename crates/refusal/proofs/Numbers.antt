@@ -1,0 +1,58 @@
+-- The numbers that a refusal can have, and a test in front of other refusals. Assumes nothing.
+use mathlib.Core.Path.{_≡_, refl, sym, ap, _∙_, subst}
+use mathlib.Core.Logic.{_↔_, ⊎-elim}
+use mathlib.Core.Bool.{Bool, true, false, _&&_, or-true, true≢false, false≢true}
+use mathlib.Core.List.{List, [], _∷_}
+use Prim.Native.Nat.{ℕ}
+use borrow.Author.Tests.{eqb-true, eq-eqb}
+use lib.Dec.{eqb}
+use Rattle.word.specs.Choice.{pick}
+use Rattle.word.proofs.Tests.{both-true, one-true, of-either}
+use Rattle.refusal.specs.Refusal.{numberOf, oneOf}
+use Rattle.refusal.specs.declared.Refusal.{Refusal}
+use Rattle.refusal.proofs.Chains.{Says, first-exactly, later-exactly, later-is}
+
+-- each number of the second list is in the first
+abbrev pub allOf : List ℕ → List ℕ → Bool
+allOf l [] = true
+allOf l (x ∷ xs) = oneOf l x && allOf l xs
+
+-- so what is in the second is in the first
+pub within : (l m : List ℕ) (n : ℕ) → allOf l m ≡ true → oneOf m n ≡ true → oneOf l n ≡ true
+within l [] n a o = absurd (false≢true o)
+within l (x ∷ xs) n a o =
+    let b = both-true (oneOf l x) _ a in
+    ⊎-elim (λ e. subst (λ (k : ℕ). oneOf l k ≡ true) (eqb-true x n e) (b .0)) (λ e. within l xs n (b .1) e) (one-true (eqb x n) _ o)
+
+-- a number of a list is not one outside it
+pub apart : (l : List ℕ) (m n : ℕ) → oneOf l n ≡ true → oneOf l m ≡ false → m ≡ n → ⊥
+apart l m n p q e = true≢false (sym p ∙ ap (oneOf l) (sym e) ∙ q)
+
+-- a refusal whose number is one of those listed
+abbrev pub Among : List ℕ → Refusal → Type 0
+Among l r = oneOf l (numberOf r) ≡ true
+
+-- what is said of a refusal is said of the one that a call gives
+pub over : {r s : Refusal} (n : ℕ) (P : Type 0) → r ≡ s → (numberOf s ≡ n) ↔ P → (numberOf r ≡ n) ↔ P
+over n P e d = (λ p. d .0 (ap numberOf (sym e) ∙ p), λ x. ap numberOf e ∙ d .1 x)
+
+-- the refusal r is `own` where P holds and, where Q does, s, whose number is one of ns
+pub record InFront (r own s : Refusal) (P Q : Type 0) (ns : List ℕ) : Type 1 where
+  pub at-own : (numberOf r ≡ numberOf own) ↔ P
+  pub behind : (n : ℕ) (R : Type 0) → oneOf ns n ≡ true → (numberOf s ≡ n) ↔ R → (numberOf r ≡ n) ↔ (Q × R)
+  pub is : Q → r ≡ s
+  pub among : Among (numberOf own ∷ ns) r
+
+-- so it is of a test with a refusal of its own in front of s, whose number that is not
+pub in-front : {b : Bool} {P Q : Type 0} → Says b P Q → (r own s : Refusal) (ns : List ℕ) → r ≡ pick b own s → Among ns s → oneOf ns (numberOf own) ≡ false
+    → InFront r own s P Q ns
+in-front {b = b} {P = P} {Q = Q} says r own s ns e a o =
+    record {
+      at-own =
+          over (numberOf own) P e (first-exactly says own s (numberOf own) refl (λ x. apart ns (numberOf own) (numberOf s) a o (sym x)));
+      behind = λ n R i d. over n (Q × R) e (later-exactly says own s n R (apart ns (numberOf own) n i o) d);
+      is = λ q. e ∙ later-is says own s q;
+      among =
+          subst (Among (numberOf own ∷ ns)) (sym e)
+          (of-either (Among (numberOf own ∷ ns)) b own s (rw (eq-eqb (numberOf own) (numberOf own) refl)) (rw a (or-true (eqb (numberOf own) (numberOf s)))));
+    }

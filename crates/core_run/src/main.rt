@@ -1,7 +1,20 @@
 // Runs the one-block entry on 01's bench checks, on FIPS 180-4's one-block example and on published colliding files, and
-// writes a line for each call. The file stdout has what the lines must be.
+// writes a line for each call. The file data/cases.txt has the calls, the file stdout what the lines must be.
 ghost use mathlib.Core.Path.{_≡_};
 ghost use lib.ListN.{length};
+use cases::field;
+use cases::front;
+use cases::front_bytes;
+use cases::line_at;
+use cases::load;
+use cases::next_line;
+use cases::number_at;
+use cases::page;
+use cases::read;
+use cases::records_of;
+use cases::rest_of;
+use cases::say_title;
+use cases::word_at;
 use detect::Found;
 use detect::Mode;
 use detect::OneBlock;
@@ -10,38 +23,47 @@ use printing::say;
 use printing::say_decimal;
 use printing::say_refusal;
 use printing::say_words;
+use refusal::Refusal;
 use refusal::is_nothing;
 use refusal::number;
 use refusal::place;
+use table_file::MOST_WORDS;
 use table_file::file_fault;
 use table_file::file_words;
 
-fn say_found(f: Found) {
-    if f.mark {
+fn say_mark(mark: bool) {
+    if mark {
         say(b"marked by ");
-        say_decimal(f.place as u64);
     } else {
         say(b"unmarked, place ");
-        say_decimal(f.place as u64);
     }
-    say(b", tried ");
-    say_decimal(f.tried as u64);
 }
 
-// The refusal's number and place, the words, and what was found.
+fn say_found(f: Found) {
+    say_mark(f.mark);
+    say_decimal(f.place as u64);
+    say(b", tried ");
+    say_decimal(f.tried as u64);
+    say(b"\n");
+}
+
+fn say_fault(r: Refusal) {
+    if !is_nothing(r) {
+        say_refusal(r);
+        say(b", ");
+    }
+}
+
+// The case, the refusal's number and place, the words, and what was found.
 fn show(case: &[u8], b: OneBlock) {
     let r = b.refusal;
     let w = b.words;
     let f = b.found;
     say(case);
     say(b": ");
-    if !is_nothing(r) {
-        say_refusal(r);
-        say(b", ");
-    }
+    say_fault(r);
     say_words(w);
     say_found(f);
-    say(b"\n");
 }
 
 fn start() -> [u32; 5] {
@@ -61,108 +83,26 @@ fn abc() -> [u8; 64]
     b
 }
 
-// 33 control records, each with mask number 0 and test step 58.
-fn controls() -> [u32; 2706]
-    ensures { λ r. ⌜ 2706 ≡ length r ⌝ }
-{
-    let mut t = [0u32; 2706];
-    for i in 0..33 {
-        t[82 * i + 1] = 58;
+// Two of the flags' bits: 2 mitigate, 8 reduced-round.
+fn mode_of(bits: usize) -> Mode {
+    Mode {
+        mitigate: bits / 2 % 2 == 1,
+        reduced: bits / 8 % 2 == 1,
     }
-    t
 }
 
-// The first n of some words, or all of them.
-fn front(t: &[u32], n: usize) -> &[u32] {
-    if n <= t.len() {
-        return &t[0..n];
-    }
-    t
-}
-
-// The first n bytes of some, or all of them.
-fn part(block: &[u8], n: usize) -> &[u8] {
-    if n <= block.len() {
-        return &block[0..n];
-    }
-    block
-}
-
-// The records with one word changed.
-fn with_word(t: [u32; 2706], at: usize, x: u32) -> [u32; 2706]
-    requires { ⌜ 2706 ≡ length t ⌝ }
-    ensures { λ r. ⌜ 2706 ≡ length r ⌝ }
-{
-    let mut u = t;
-    if at < 2706 {
-        u[at] = x;
-        return u;
-    }
-    t
-}
-
-// 32 of the records with two words changed. All but those whose mask number was changed have mask number 0, which the
-// mask leaves out.
-fn changed(case: &[u8], at: usize, x: u32, also: usize, y: u32) {
-    let mode = Mode {
-        mitigate: false,
-        reduced: false,
-    };
-    let t = with_word(with_word(controls(), at, x), also, y);
+// The block of `abc`, or its first bytes, with control records.
+fn control(line: &[u8]) {
+    let t = records_of(line);
     let block = abc();
-    show(
-        case,
-        one_block(start(), &block, front(&t, 2624), 0xFFFFFFFE, mode),
+    let b = one_block(
+        start(),
+        front_bytes(&block, number_at(line, 8)),
+        front(&t, number_at(line, 1)),
+        word_at(line, 6),
+        mode_of(number_at(line, 7)),
     );
-}
-
-// FIPS 180-4's example, with lengths of tables and blocks at their limits.
-fn limits(t: &[u32], block: &[u8]) {
-    let mode = Mode {
-        mitigate: false,
-        reduced: false,
-    };
-    let safe = Mode {
-        mitigate: true,
-        reduced: false,
-    };
-    let one = front(t, 82);
-    let most = front(t, 2624);
-    let w = start();
-    show(b"abc", one_block(w, block, one, 0, mode));
-    show(b"32 records", one_block(w, block, most, 1, mode));
-    show(b"32 mitigated", one_block(w, block, most, 1, safe));
-    show(b"33 records", one_block(w, block, t, 1, mode));
-    show(b"no record", one_block(w, block, front(t, 0), 1, mode));
-    show(b"83 words", one_block(w, block, front(t, 83), 1, mode));
-    show(b"63 bytes", one_block(w, part(block, 63), one, 1, mode));
-    show(b"size first", one_block(w, part(block, 0), t, 1, mode));
-}
-
-// Record 2 starts at word 164, record 5 at word 410.
-fn records() {
-    changed(b"unchanged", 164, 0, 164, 0);
-    changed(b"mask number 31", 164, 31, 164, 31);
-    changed(b"mask number 32", 164, 32, 164, 32);
-    changed(b"step 64", 165, 64, 165, 64);
-    changed(b"step 65", 164, 1, 165, 65);
-    changed(b"last word", 245, 1, 245, 1);
-    changed(b"two records", 165, 64, 410, 32);
-    changed(b"two faults", 164, 32, 165, 64);
-    changed(b"later faults", 165, 64, 245, 1);
-}
-
-// Fills the buffer from a file, or says that it could not.
-fn load(path: &[u8], buf: &mut [u8]) {
-    let fd = os::open_read(path);
-    if fd < 0 {
-        say(b"no file\n");
-        return;
-    }
-    if io::read_full(fd, buf) < buf.len() {
-        say(b"short file\n");
-    }
-    libc::close(fd);
+    show(rest_of(line, 9), b);
 }
 
 // Block i of a message, from the given words.
@@ -177,10 +117,7 @@ fn run(w: [u32; 5], m: &[u8], i: usize, table: &[u32], mask: u32, mode: Mode) ->
 
 // The words after the first n blocks: with mask 0 nothing is tried.
 fn after(m: &[u8], n: usize, table: &[u32]) -> [u32; 5] {
-    let mode = Mode {
-        mitigate: false,
-        reduced: false,
-    };
+    let mode = mode_of(0);
     let mut w = start();
     for i in 0..n {
         let b = run(w, m, i, table, 0, mode);
@@ -189,87 +126,74 @@ fn after(m: &[u8], n: usize, table: &[u32]) -> [u32; 5] {
     w
 }
 
-// One block of a file under all four modes.
-fn modes(m: &[u8], i: usize, table: &[u32], mask: u32) {
-    let w = after(m, i, table);
-    let raw = Mode {
-        mitigate: false,
-        reduced: false,
-    };
-    let safe = Mode {
-        mitigate: true,
-        reduced: false,
-    };
-    let raw_reduced = Mode {
-        mitigate: false,
-        reduced: true,
-    };
-    let safe_reduced = Mode {
-        mitigate: true,
-        reduced: true,
-    };
-    show(b"  raw", run(w, m, i, table, mask, raw));
-    show(b"  safe", run(w, m, i, table, mask, safe));
-    show(b"  raw, reduced", run(w, m, i, table, mask, raw_reduced));
-    show(b"  safe, reduced", run(w, m, i, table, mask, safe_reduced));
+// One block of a file.
+fn block_of(line: &[u8], m: &[u8], table: &[u32]) {
+    let i = number_at(line, 3);
+    let b = run(
+        after(m, i, table),
+        m,
+        i,
+        table,
+        word_at(line, 4),
+        mode_of(number_at(line, 5)),
+    );
+    show(rest_of(line, 6), b);
 }
 
-// What is wrong with the first n bytes of a table file.
-fn file_of(bytes: &[u8], n: usize) {
-    let r = file_fault(part(bytes, n));
-    say(b"file of ");
-    say_decimal(n as u64);
-    say(b" bytes: ");
+fn front_of(line: &[u8], m: &[u8; 320], table: &[u32; MOST_WORDS]) {
+    block_of(line, front_bytes(m, number_at(line, 2)), table);
+}
+
+fn published(line: &[u8], table: &[u32; MOST_WORDS]) {
+    let mut m = [0u8; 320];
+    let n = number_at(line, 2);
+    if n <= 320 {
+        load(field(line, 1), &mut m[0..n]);
+        front_of(line, &m, table);
+    }
+}
+
+// What is wrong with the first bytes of a table file.
+fn table_file(line: &[u8], bytes: &[u8; 10824]) {
+    let r = file_fault(front_bytes(bytes, number_at(line, 1)));
+    say(rest_of(line, 2));
+    say(b": ");
     say_decimal(number(r) as u64);
     say(b" at ");
     say_decimal(place(r) as u64);
     say(b"\n");
 }
 
-fn lengths(bytes: &[u8]) {
-    file_of(bytes, 0);
-    file_of(bytes, 327);
-    file_of(bytes, 328);
-    file_of(bytes, 332);
-    file_of(bytes, 10496);
-    file_of(bytes, 10497);
-    file_of(bytes, 10824);
+// A line of the cases: `#` begins a comment, `=` a title.
+fn one(line: &[u8], longer: &[u8; 10824], table: &[u32; MOST_WORDS]) {
+    if line.len() == 0 {
+        return;
+    }
+    match line[0] {
+        b'c' => control(line),
+        b'f' => table_file(line, longer),
+        b'p' => published(line, table),
+        b'=' => say_title(line),
+        _ => return,
+    }
 }
 
-// Blocks of two published files under the real table.
-fn published(table: &[u32], shattered: &[u8], reduced: &[u8]) {
-    say(b"shattered, block 3\n");
-    modes(shattered, 3, table, 0xFFFFFFFF);
-    say(b"shattered, block 4\n");
-    modes(shattered, 4, table, 0xFFFFFFFF);
-    say(b"shattered, block 4, without the mask's bit 27\n");
-    modes(shattered, 4, table, 0xF7FFFFFF);
-    say(b"reduced rounds, block 0\n");
-    modes(reduced, 0, table, 0xFFFFFFFF);
-    say(b"reduced rounds, block 1\n");
-    modes(reduced, 1, table, 0xFFFFFFFF);
-    say(b"reduced rounds, block 1, mask 0\n");
-    modes(reduced, 1, table, 0);
+fn each(text: &[u8], longer: &[u8; 10824], table: &[u32; MOST_WORDS]) {
+    let mut at = 0;
+    while at < text.len() {
+        one(line_at(text, at), longer, table);
+        at = next_line(text, at);
+    }
 }
 
-fn files() {
+// The cases, over a table file and one that is longer than a table can be.
+fn main() {
+    let mut text = page();
     let mut bytes = [0u8; 10496];
     let mut longer = [0u8; 10824];
-    let mut shattered = [0u8; 320];
-    let mut reduced = [0u8; 128];
+    let n = read(b"cases.txt", &mut text);
     load(b"real-table.bin", &mut bytes);
-    load(b"shattered-1.first320.bin", &mut shattered);
-    load(b"sha1_reducedsha_coll.bin", &mut reduced);
     load(b"longer-table.bin", &mut longer);
-    lengths(&longer);
     let table = file_words(&bytes);
-    published(&table, &shattered, &reduced);
-}
-
-fn main() {
-    let t = controls();
-    let block = abc();
-    limits(&t, &block);
-    records();
-    files();
+    each(&text[..n], &longer, &table);
 }

@@ -1,88 +1,88 @@
 // The lines of a message: what is tried, the verdict and the digest.
-use crate::cut::Cut;
-use crate::cut::closed;
-use crate::cut::digested;
-use crate::cut::finished;
-use crate::cut::taken;
+ghost use mathlib.Core.Path.{_≡_};
+ghost use lib.ListN.{length};
+use crate::ended::end_by;
+use cases::field;
+use cases::flags_of;
+use cases::front_bytes;
+use cases::load;
+use cases::number_at;
+use cases::rest_of;
 use hasher::Hasher;
 use printing::say;
 use printing::say_answer;
 use printing::say_flags;
 use stream::Flags;
 
-// One of the 16 settings of the flags.
-fn flags_of(bits: usize) -> Flags {
-    Flags::new()
-        .detect_collision(bits / 8 % 2 == 1)
-        .safe_hash(bits / 4 % 2 == 1)
-        .use_ubc(bits / 2 % 2 == 1)
-        .reduced_round_collision(bits % 2 == 1)
-}
-
-// The finish of a hasher after n bytes.
-pub(crate) fn say_finish(h: Hasher, n: usize, table: &[u32], masks: &[u32]) {
-    let f = finished(h, n, table, masks);
-    let o = f.outcome;
-    let digest = f.digest;
-    say_answer(o, &digest);
-}
-
-// A message in one piece, and a finish-and-reset.
-fn say_close(flags: Flags, m: &[u8], table: &[u32], masks: &[u32]) {
-    let mut out = [0u8; 20];
-    let c = closed(Hasher::new(flags), m, &mut out, table, masks);
-    let o = c.outcome;
-    say_answer(o, &out);
-}
-
-// A message by the one-shot form.
-pub(crate) fn at_once(case: &[u8], m: &[u8], table: &[u32], masks: &[u32]) {
-    let d = digested(m, table, masks);
-    let o = d.outcome;
-    let digest = d.digest;
-    say(case);
+fn answer(way: usize, flags: Flags, line: &[u8], m: &[u8], table: &[u32], masks: &[u32]) {
+    let e = end_by(way, Hasher::new(flags), m, line, table, masks);
+    let o = e.outcome;
+    let digest = e.digest;
     say_answer(o, &digest);
     say(b"\n");
 }
 
-// A message in pieces.
-pub(crate) fn in_pieces(
-    case: &[u8],
-    flags: Flags,
-    m: &[u8],
-    cut: Cut,
-    table: &[u32],
-    masks: &[u32],
-) {
-    let h = taken(Hasher::new(flags), m, cut, table, masks);
-    say(case);
-    say_finish(h, m.len(), table, masks);
-    say(b"\n");
-}
-
-// A message whole: what a finish gives, and what a finish-and-reset gives.
-fn whole(flags: Flags, m: &[u8], table: &[u32], masks: &[u32]) {
-    let cut = Cut {
-        first: m.len(),
-        then: 1,
-    };
+// A message: what a finish gives, and what a finish-and-reset gives.
+fn whole(flags: Flags, line: &[u8], m: &[u8], table: &[u32], masks: &[u32]) {
     say(b"  ");
     say_flags(flags);
-    in_pieces(b": ", flags, m, cut, table, masks);
+    say(b": ");
+    answer(0, flags, line, m, table, masks);
     say(b"    with reset: ");
-    say_close(flags, m, table, masks);
-    say(b"\n");
+    answer(1, flags, line, m, table, masks);
 }
 
-fn each_mode(m: &[u8], table: &[u32], masks: &[u32]) {
+// Four bits in the other order, so that detection is the last to turn.
+fn turned(bits: usize) -> usize {
+    bits / 8 % 2 + bits / 4 % 2 * 2 + bits / 2 % 2 * 4 + bits % 2 * 8
+}
+
+fn each_mode(line: &[u8], m: &[u8], table: &[u32], masks: &[u32]) {
     for bits in 0..16 {
-        whole(flags_of(bits), m, table, masks);
+        whole(flags_of(turned(bits)), line, m, table, masks);
     }
 }
 
 // A message under every setting of the flags, and by the one-shot form.
-pub(crate) fn modes(title: &[u8], m: &[u8], table: &[u32], masks: &[u32]) {
-    say(title);
-    each_mode(m, table, masks);
-    at_once(b"  one-shot: ", m, table, masks);
+fn modes(line: &[u8], m: &[u8], table: &[u32], masks: &[u32]) {
+    say(rest_of(line, 10));
+    say(b"\n");
+    each_mode(line, m, table, masks);
+    say(b"  one-shot: ");
+    answer(2, Flags::new(), line, m, table, masks);
+}
+
+// The first bytes of field 8, as many as field 9 says.
+pub(crate) fn text(line: &[u8], table: &[u32], masks: &[u32]) {
+    let m = front_bytes(field(line, 8), number_at(line, 9));
+    modes(line, m, table, masks);
+}
+
+fn front_of(line: &[u8], m: &[u8; 320], table: &[u32], masks: &[u32]) {
+    modes(line, front_bytes(m, number_at(line, 9)), table, masks);
+}
+
+// The file that field 8 names, of as many bytes as field 9 says.
+pub(crate) fn file(line: &[u8], table: &[u32], masks: &[u32]) {
+    let mut m = [0u8; 320];
+    let n = number_at(line, 9);
+    if n <= 320 {
+        load(field(line, 8), &mut m[0..n]);
+        front_of(line, &m, table, masks);
+    }
+}
+
+fn a_million() -> [u8; 1000000]
+    ensures { λ r. ⌜ 1000000 ≡ length r ⌝ }
+{
+    [0x61; 1000000]
+}
+
+// A million times a, under the flags of field 5, by the way of field 8.
+pub(crate) fn long(line: &[u8], table: &[u32], masks: &[u32]) {
+    let m = a_million();
+    let flags = flags_of(number_at(line, 5));
+    say(rest_of(line, 10));
+    say(b": ");
+    answer(number_at(line, 8), flags, line, &m, table, masks);
 }

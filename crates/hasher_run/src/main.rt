@@ -1,85 +1,112 @@
-// Runs the hasher on published messages and files, whole and in pieces, and writes what came of each. The file stdout has
-// what the lines must be.
+// Runs the hasher on published messages and files, whole and in pieces, and writes what came of each. The file
+// data/cases.txt has the calls, the file stdout what the lines must be.
 ghost use mathlib.Core.Path.{_≡_};
 ghost use lib.ListN.{length};
 
-mod cut;
-mod fips;
+mod ended;
 mod line;
 mod marked;
 mod nist;
 
-use printing::say;
-use stream::Flags;
+use cases::front;
+use cases::line_at;
+use cases::load;
+use cases::next_line;
+use cases::number_at;
+use cases::page;
+use cases::read;
+use cases::say_title;
+use cases::word_at;
+use table_file::MOST_WORDS;
 use table_file::file_words;
 
-// Fills the buffer from a file, or says that it could not.
-fn load(name: &[u8], buf: &mut [u8]) {
-    let fd = os::open_read(name);
-    if fd < 0 {
-        say(b"no file\n");
-        return;
-    }
-    if io::read_full(fd, buf) < buf.len() {
-        say(b"short file\n");
-    }
-    libc::close(fd);
-}
+// Masks for each block of the longest message.
+const MASKS: usize = 15626;
 
-// A mask for each block of the longest message.
-fn masks(mask: u32) -> [u32; 15626]
+// Bytes of the file with NIST's short messages.
+const SHORT: usize = 3445;
+
+fn same_masks(mask: u32) -> [u32; MASKS]
     ensures { λ r. ⌜ 15626 ≡ length r ⌝ }
 {
-    [mask; 15626]
+    [mask; MASKS]
 }
 
-// Published files with a colliding block, of which the last has one in the reduced rounds only.
-fn collisions(real: &[u32], zeros: &[u32]) {
-    let mut first = [0u8; 320];
-    let mut second = [0u8; 320];
-    let mut reduced = [0u8; 128];
-    load(b"shattered-1.first320.bin", &mut first);
-    load(b"shattered-2.first320.bin", &mut second);
-    load(b"sha1_reducedsha_coll.bin", &mut reduced);
-    marked::file(b"shattered-1\n", &first, 4, real, zeros);
-    marked::file(b"shattered-2\n", &second, 4, real, zeros);
-    marked::file(b"reduced rounds\n", &reduced, 1, real, zeros);
+// A case's masks: field 2 for every block, but for the block of field 3, which has field 4.
+fn masks_of(line: &[u8]) -> [u32; MASKS]
+    ensures { λ r. ⌜ 15626 ≡ length r ⌝ }
+{
+    let mut masks = same_masks(word_at(line, 2));
+    let at = number_at(line, 3);
+    if at < MASKS {
+        masks[at] = word_at(line, 4);
+        return masks;
+    }
+    masks
 }
 
-// A mark, clean blocks and a reset, under two settings of the flags.
-fn marks(real: &[u32], ones: &[u32]) {
-    let mut m = [0u8; 320];
-    let all = Flags::new().use_ubc(false);
-    let raw = all.safe_hash(false).reduced_round_collision(true);
-    load(b"shattered-1.first320.bin", &mut m);
-    marked::stays(b"the mark stays, mitigated\n", all, &m, real, ones);
-    marked::stays(
-        b"the mark stays, raw, reduced rounds\n",
-        raw,
-        &m,
-        real,
-        ones,
-    );
+// A call by its letter, with a table and masks.
+fn call(letter: u8, line: &[u8], short: &[u8; SHORT], table: &[u32], masks: &[u32]) {
+    match letter {
+        b'm' => line::text(line, table, masks),
+        b'x' => line::file(line, table, masks),
+        b'l' => line::long(line, table, masks),
+        b'n' => nist::count(line, short, table, masks),
+        b's' => marked::stays(line, table, masks),
+        _ => return,
+    }
 }
 
-fn messages(real: &[u32], control: &[u32], ones: &[u32], zeros: &[u32]) {
-    let mut short = [0u8; 3445];
-    load(b"short-messages.bin", &mut short);
-    fips::run(real, control, ones, zeros);
-    nist::run(&short, real, control, ones, zeros);
-    marked::control_record(control, ones, zeros);
+// Field 1 has the words of the table: 82 for the control record, else it is the real one.
+fn lent(
+    letter: u8,
+    line: &[u8],
+    short: &[u8; SHORT],
+    real: &[u32; MOST_WORDS],
+    control: &[u32; MOST_WORDS],
+) {
+    let masks = masks_of(line);
+    if number_at(line, 1) == 82 {
+        call(letter, line, short, front(control, 82), &masks);
+    } else {
+        call(letter, line, short, real, &masks);
+    }
 }
 
-fn main() {
+// A line of the cases: `#` begins a comment, `=` a title.
+fn one(line: &[u8], short: &[u8; SHORT], real: &[u32; MOST_WORDS], control: &[u32; MOST_WORDS]) {
+    if line.len() == 0 {
+        return;
+    }
+    let letter = line[0];
+    match letter {
+        b'#' => return,
+        b'=' => say_title(line),
+        _ => lent(letter, line, short, real, control),
+    }
+}
+
+fn each(text: &[u8], short: &[u8; SHORT], real: &[u32; MOST_WORDS], control: &[u32; MOST_WORDS]) {
+    let mut at = 0;
+    while at < text.len() {
+        one(line_at(text, at), short, real, control);
+        at = next_line(text, at);
+    }
+}
+
+// The cases over two tables.
+fn with_tables(text: &[u8], short: &[u8; SHORT]) {
     let mut bytes = [0u8; 10496];
     let mut record = [0u8; 328];
     load(b"real-table.bin", &mut bytes);
     load(b"control-table.bin", &mut record);
-    let real = file_words(&bytes);
-    let words = file_words(&record);
-    let ones = masks(0xFFFFFFFF);
-    let zeros = masks(0);
-    messages(&real, &words[0..82], &ones, &zeros);
-    collisions(&real, &zeros);
-    marks(&real, &ones);
+    each(text, short, &file_words(&bytes), &file_words(&record));
+}
+
+fn main() {
+    let mut text = page();
+    let mut short = [0u8; SHORT];
+    let n = read(b"cases.txt", &mut text);
+    load(b"short-messages.bin", &mut short);
+    with_tables(&text[..n], &short);
 }

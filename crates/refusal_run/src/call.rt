@@ -1,5 +1,10 @@
 // One call of an entry point, and a line of what came of it: the answer, and whether what was given came back as it was.
+use crate::given::hasher_of;
 use crate::same::same_hasher;
+use cases::field;
+use cases::front_bytes;
+use cases::number_at;
+use cases::rest_of;
 use finish::Outcome;
 use finish::finish;
 use finish::finish_and_reset;
@@ -15,22 +20,17 @@ use printing::say_hasher;
 use printing::say_hex;
 use printing::say_outcome;
 use printing::say_refusal;
+use refusal::Refusal;
 use refusal::is_nothing;
 
-pub enum Entry {
-    Update,
-    InPlace,
-    Reset,
-    Finish,
-    FinishAndReset,
-    OneShot,
+fn head(line: &[u8]) {
+    say(rest_of(line, 14));
+    say(b": ");
 }
 
-fn head(entry: &[u8], case: &[u8]) {
-    say(entry);
-    say(b", ");
-    say(case);
-    say(b": ");
+// The first bytes of field 12.
+fn message(line: &[u8]) -> &[u8] {
+    front_bytes(field(line, 12), number_at(line, 13))
 }
 
 // The hasher that came back, or that it is the one given.
@@ -44,32 +44,44 @@ fn say_back(given: Hasher, back: Hasher) {
     }
 }
 
-fn said(entry: &[u8], case: &[u8], given: Hasher, u: Updated) {
-    let r = u.refusal;
-    let back = u.hasher;
-    head(entry, case);
+fn say_accepted(r: Refusal) {
     if is_nothing(r) {
         say(b"accepted");
     } else {
         say_refusal(r);
     }
+}
+
+fn said(line: &[u8], given: Hasher, u: Updated) {
+    let r = u.refusal;
+    let back = u.hasher;
+    head(line);
+    say_accepted(r);
     say_back(given, back);
 }
 
-pub(crate) fn by_update(case: &[u8], h: Hasher, m: &[u8], table: &[u32], masks: &[u32]) {
-    said(b"update", case, h, update(h, m, table, masks));
+pub(crate) fn by_update(line: &[u8], table: &[u32], masks: &[u32]) {
+    let h = hasher_of(line);
+    said(line, h, update(h, message(line), table, masks));
 }
 
-pub(crate) fn in_place(case: &[u8], h: Hasher, m: &[u8], table: &[u32], masks: &[u32]) {
-    said(b"update in place", case, h, through(h, m, table, masks));
+pub(crate) fn in_place(line: &[u8], table: &[u32], masks: &[u32]) {
+    let h = hasher_of(line);
+    said(line, h, through(h, message(line), table, masks));
 }
 
-pub(crate) fn by_finish(case: &[u8], h: Hasher, table: &[u32], masks: &[u32]) {
+pub(crate) fn by_reset(line: &[u8]) {
+    let h = hasher_of(line);
+    said(line, h, reset(h));
+}
+
+pub(crate) fn by_finish(line: &[u8], table: &[u32], masks: &[u32]) {
+    let h = hasher_of(line);
     let f = finish(h, table, masks);
     let o = f.outcome;
     let digest = f.digest;
     let g = f.hasher;
-    head(b"finish", case);
+    head(line);
     say_answer(o, &digest);
     say_back(h, g);
 }
@@ -80,38 +92,27 @@ fn say_out(o: Outcome, out: &[u8; 24]) {
     say_hex(out);
 }
 
-// The output is lent as the front of 24 bytes.
-pub(crate) fn by_close(case: &[u8], h: Hasher, size: usize, table: &[u32], masks: &[u32]) {
+// The output is lent as the front of 24 bytes; field 13 has its size.
+pub(crate) fn by_close(line: &[u8], table: &[u32], masks: &[u32]) {
+    let h = hasher_of(line);
     let mut out = [0xA5u8; 24];
+    let size = number_at(line, 13);
     if 24 < size {
         return;
     }
     let c = finish_and_reset(h, &mut out[0..size], table, masks);
     let o = c.outcome;
     let g = c.hasher;
-    head(b"finish and reset", case);
+    head(line);
     say_out(o, &out);
     say_back(h, g);
 }
 
-pub(crate) fn at_once(case: &[u8], m: &[u8], table: &[u32], masks: &[u32]) {
-    let d = one_shot(m, table, masks);
+pub(crate) fn at_once(line: &[u8], table: &[u32], masks: &[u32]) {
+    let d = one_shot(message(line), table, masks);
     let o = d.outcome;
     let digest = d.digest;
-    head(b"one-shot", case);
+    head(line);
     say_answer(o, &digest);
     say(b"\n");
-}
-
-// An entry point on what makes one block of a hasher with 3 pending bytes, and so wants one mask.
-pub(crate) fn call(e: Entry, case: &[u8], h: Hasher, table: &[u32], masks: &[u32]) {
-    let m = [0x78u8; 61];
-    match e {
-        Entry::Update => by_update(case, h, &m, table, masks),
-        Entry::InPlace => in_place(case, h, &m, table, masks),
-        Entry::Reset => said(b"reset", case, h, reset(h)),
-        Entry::Finish => by_finish(case, h, table, masks),
-        Entry::FinishAndReset => by_close(case, h, 20, table, masks),
-        Entry::OneShot => at_once(case, b"abc", table, masks),
-    }
 }

@@ -1,55 +1,80 @@
 // Puts to the hasher's entry points what they must refuse, and what they must not, and writes a line for each call. The file
-// stdout has what the lines must be.
+// data/cases.txt has the calls, the file stdout what the lines must be.
 mod call;
-mod cases;
 mod given;
-mod limits;
 mod same;
 
-use call::Entry;
-use cases::forms;
-use cases::lent;
-use cases::unseen;
-use given::controls;
-use given::front;
+use call::at_once;
+use call::by_close;
+use call::by_finish;
+use call::by_reset;
+use call::by_update;
+use call::in_place;
+use cases::front;
+use cases::line_at;
+use cases::next_line;
+use cases::number_at;
+use cases::page;
+use cases::read;
+use cases::records_of;
+use cases::rest_of;
+use cases::say_title;
+use given::hasher_of;
+use printing::say;
+use printing::say_hasher;
 
-// Calls on hashers that are not well formed.
-fn ill_formed(t: &[u32], masks: &[u32]) {
-    let table = front(t, 82);
-    let one = front(masks, 1);
-    forms(Entry::Update, table, one);
-    forms(Entry::InPlace, table, one);
-    forms(Entry::Reset, table, one);
-    forms(Entry::Finish, table, one);
-    forms(Entry::FinishAndReset, table, one);
+// The hasher that calls are given.
+fn say_given(line: &[u8]) {
+    say(rest_of(line, 14));
+    say(b": hasher ");
+    say_hasher(hasher_of(line));
+    say(b"\n");
 }
 
-// Calls that are lent tables and masks.
-fn all_lent(t: &[u32], masks: &[u32]) {
-    lent(Entry::Update, t, masks);
-    lent(Entry::InPlace, t, masks);
-    lent(Entry::Finish, t, masks);
-    lent(Entry::FinishAndReset, t, masks);
-    lent(Entry::OneShot, t, masks);
-}
-
-fn all_unseen(t: &[u32], masks: &[u32]) {
-    unseen(Entry::Update, t, masks);
-    unseen(Entry::InPlace, t, masks);
-    unseen(Entry::Finish, t, masks);
-    unseen(Entry::FinishAndReset, t, masks);
-}
-
-fn run(t: &[u32], masks: &[u32]) {
-    ill_formed(t, masks);
-    all_lent(t, masks);
-    all_unseen(t, masks);
-    limits::run(front(t, 82), masks);
+// A call by its letter.
+fn by_letter(letter: u8, line: &[u8], table: &[u32], masks: &[u32]) {
+    match letter {
+        b'u' => by_update(line, table, masks),
+        b'p' => in_place(line, table, masks),
+        b'r' => by_reset(line),
+        b'f' => by_finish(line, table, masks),
+        b'c' => by_close(line, table, masks),
+        b'o' => at_once(line, table, masks),
+        _ => say_given(line),
+    }
 }
 
 // The masks select no record with mask number 0.
-fn main() {
-    let t = controls();
+fn lent(letter: u8, line: &[u8]) {
+    let t = records_of(line);
     let masks = [0xFFFFFFFEu32; 3];
-    run(&t, &masks);
+    let table = front(&t, number_at(line, 1));
+    by_letter(letter, line, table, front(&masks, number_at(line, 6)));
+}
+
+// A line of the cases: `#` begins a comment, `=` a title.
+fn one(line: &[u8]) {
+    if line.len() == 0 {
+        return;
+    }
+    let letter = line[0];
+    match letter {
+        b'#' => return,
+        b'=' => say_title(line),
+        _ => lent(letter, line),
+    }
+}
+
+fn each(text: &[u8]) {
+    let mut at = 0;
+    while at < text.len() {
+        one(line_at(text, at));
+        at = next_line(text, at);
+    }
+}
+
+fn main() {
+    let mut text = page();
+    let n = read(b"cases.txt", &mut text);
+    each(&text[..n]);
 }

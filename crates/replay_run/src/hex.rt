@@ -1,10 +1,5 @@
 // Hex digits read: runs of bytes, and numbers of one or two digits.
-ghost use mathlib.Core.Path.{_≡_};
 ghost use Prim.Native.Nat.{_<_};
-ghost use lib.ListN.{getD};
-ghost use Rattle.word.specs.Lists.{listOf};
-ghost use Rattle.table_file.specs.File.{mostFileBytes};
-ghost use Rattle.replay_run.specs.Hex.{digitOf, allDigits, pairOf, byteOf, isRun, isDash, runOf, smallOf};
 use table_file::MOST_WORDS;
 
 // Bytes in the longest run, a table of 32 records.
@@ -21,9 +16,7 @@ pub struct Run {
 }
 
 // The value of a digit, 16 of any other byte.
-fn digit(b: u8) -> u8
-    ensures { λ r. ⌜ r ≡ digitOf b ⌝ }
-{
+fn digit(b: u8) -> u8 {
     if b < b'0' {
         return 16;
     }
@@ -39,9 +32,7 @@ fn digit(b: u8) -> u8
     16
 }
 
-fn all_digits(s: &[u8]) -> bool
-    ensures { λ r. ⌜ r ≡ allDigits (now (s .entry)) ⌝ }
-{
+fn all_digits(s: &[u8]) -> bool {
     for i in 0..s.len() {
         if 16 <= digit(s[i]) {
             return false;
@@ -51,9 +42,7 @@ fn all_digits(s: &[u8]) -> bool
 }
 
 // Byte i of a field, 0 past its end.
-fn at(s: &[u8], i: usize) -> u8
-    ensures { λ r. ⌜ r ≡ getD (now (s .entry)) i 0 ⌝ }
-{
+fn at(s: &[u8], i: usize) -> u8 {
     if i < s.len() {
         return s[i];
     }
@@ -61,23 +50,18 @@ fn at(s: &[u8], i: usize) -> u8
 }
 
 // The byte of two digits, of which one that is none counts as 0.
-fn pair(high: u8, low: u8) -> u8
-    ensures { λ r. ⌜ r ≡ pairOf high low ⌝ }
-{
+fn pair(high: u8, low: u8) -> u8 {
     16 * (digit(high) % 16) + digit(low) % 16
 }
 
 // Byte i of a run of digits.
 fn byte_of(s: &[u8], i: usize) -> u8
-    requires { ⌜ i < mostFileBytes ⌝ }
-    ensures { λ r. ⌜ r ≡ byteOf (now (s .entry)) i ⌝ }
+    requires { ⌜ i < 10496 ⌝ }
 {
     pair(at(s, 2 * i), at(s, 2 * i + 1))
 }
 
-fn bytes_of(s: &[u8]) -> [u8; RUN_BYTES]
-    ensures { λ r. ⌜ r ≡ listOf (byteOf (now (s .entry))) mostFileBytes ⌝ }
-{
+fn bytes_of(s: &[u8]) -> [u8; RUN_BYTES] {
     let mut bytes = [0u8; RUN_BYTES];
     for i in 0..RUN_BYTES {
         bytes[i] = byte_of(s, i);
@@ -86,9 +70,7 @@ fn bytes_of(s: &[u8]) -> [u8; RUN_BYTES]
 }
 
 // Whether a field has two digits for each of 1 to 10,496 bytes.
-fn is_run(s: &[u8]) -> bool
-    ensures { λ r. ⌜ r ≡ isRun (now (s .entry)) ⌝ }
-{
+fn is_run(s: &[u8]) -> bool {
     if s.len() == 0 {
         return false;
     }
@@ -101,9 +83,7 @@ fn is_run(s: &[u8]) -> bool
     all_digits(s)
 }
 
-fn is_dash(s: &[u8]) -> bool
-    ensures { λ r. ⌜ r ≡ isDash (now (s .entry)) ⌝ }
-{
+fn is_dash(s: &[u8]) -> bool {
     if s.len() == 1 {
         return at(s, 0) == b'-';
     }
@@ -111,9 +91,7 @@ fn is_dash(s: &[u8]) -> bool
 }
 
 // The bytes of a field. One dash is a run of none.
-pub(crate) fn run_of(s: &[u8]) -> Run
-    ensures { λ r. ⌜ r ≡ runOf (now (s .entry)) ⌝ }
-{
+pub(crate) fn run_of(s: &[u8]) -> Run {
     if is_run(s) {
         return Run {
             good: true,
@@ -129,9 +107,7 @@ pub(crate) fn run_of(s: &[u8]) -> Run
 }
 
 // The number that a field of one or two digits is.
-pub(crate) fn small_of(s: &[u8]) -> usize
-    ensures { λ r. ⌜ r ≡ smallOf (now (s .entry)) ⌝ }
-{
+pub(crate) fn small_of(s: &[u8]) -> usize {
     if !all_digits(s) {
         return NO_NUMBER;
     }
@@ -144,8 +120,6 @@ pub(crate) fn small_of(s: &[u8]) -> usize
     NO_NUMBER
 }
 
-fn wide(x: u8) -> usize
-    ensures { λ r. ⌜ r ≡ x ⌝ }
-{
+fn wide(x: u8) -> usize {
     x as usize
 }

@@ -1,7 +1,5 @@
 // What a line of the list is.
-ghost use mathlib.Core.Path.{_≡_};
-ghost use Rattle.replay_run.specs.Kinds.{named, fieldsOf, isAlone, withFields, kindOf};
-use crate::line::spaces;
+use cases::spaces;
 
 pub enum Kind {
     Comment,
@@ -16,9 +14,7 @@ pub enum Kind {
     Unread,
 }
 
-fn kind_named(letter: u8) -> Kind
-    ensures { λ r. ⌜ r ≡ named letter ⌝ }
-{
+fn kind_named(letter: u8) -> Kind {
     match letter {
         b't' => Kind::Table,
         b'b' => Kind::Block,
@@ -32,9 +28,7 @@ fn kind_named(letter: u8) -> Kind
 }
 
 // How many fields stand after the letter.
-fn fields_of(k: Kind) -> usize
-    ensures { λ r. ⌜ r ≡ fieldsOf k ⌝ }
-{
+fn fields_of(k: Kind) -> usize {
     match k {
         Kind::Comment => 0,
         Kind::Table => 1,
@@ -49,9 +43,7 @@ fn fields_of(k: Kind) -> usize
 }
 
 // Whether a line's first byte is all of it, or a space stands after it.
-fn is_alone(line: &[u8]) -> bool
-    ensures { λ r. ⌜ r ≡ isAlone (now (line .entry)) ⌝ }
-{
+fn is_alone(line: &[u8]) -> bool {
     if 1 < line.len() {
         return line[1] == b' ';
     }
@@ -59,9 +51,7 @@ fn is_alone(line: &[u8]) -> bool
 }
 
 // A kind that has its number of fields.
-fn with_fields(k: Kind, n: usize) -> Kind
-    ensures { λ r. ⌜ r ≡ withFields k n ⌝ }
-{
+fn with_fields(k: Kind, n: usize) -> Kind {
     if n == fields_of(k) {
         return k;
     }
@@ -69,9 +59,7 @@ fn with_fields(k: Kind, n: usize) -> Kind
 }
 
 // A line's kind by its letter and its number of fields.
-pub(crate) fn kind_of(line: &[u8]) -> Kind
-    ensures { λ r. ⌜ r ≡ kindOf (now (line .entry)) ⌝ }
-{
+pub(crate) fn kind_of(line: &[u8]) -> Kind {
     if line.len() == 0 {
         return Kind::Unread;
     }

@@ -1,10 +1,7 @@
 // The line of one block.
-ghost use mathlib.Core.Path.{_≡_};
-ghost use Rattle.stream.specs.Flags.{modeOf};
-ghost use Rattle.replay_run.specs.Session.{flagsOf};
+use crate::fields::bytes_front;
 use crate::fields::first_at;
 use crate::fields::five_at;
-use crate::fields::front;
 use crate::fields::is_five;
 use crate::fields::is_mark;
 use crate::fields::run_at;
@@ -16,9 +13,7 @@ use detect::one_block;
 use refusal::is_nothing;
 
 // Of the flags' bits a block is told two.
-fn mode_of(bits: usize) -> Mode
-    ensures { λ r. ⌜ r ≡ modeOf (flagsOf bits) ⌝ }
-{
+fn mode_of(bits: usize) -> Mode {
     Mode {
         mitigate: bits / 2 % 2 == 1,
         reduced: bits / 8 % 2 == 1,
@@ -65,7 +60,7 @@ pub(crate) fn block(line: &[u8], table: &[u32]) -> bool {
     let bytes = message.bytes;
     let b = one_block(
         five_at(line, 1),
-        front(&bytes, message.len),
+        bytes_front(&bytes, message.len),
         table,
         first_at(line, 3),
         mode_of(small_at(line, 4)),

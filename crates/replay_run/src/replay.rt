@@ -4,13 +4,11 @@ use crate::counts::counted;
 use crate::counts::more;
 use crate::counts::none;
 use crate::fields::Words;
-use crate::fields::front_words;
 use crate::fields::no_words;
 use crate::fields::words_at;
+use crate::fields::words_front;
 use crate::kind::Kind;
 use crate::kind::kind_of;
-use crate::line::after;
-use crate::line::find;
 use crate::one::block;
 use crate::session::Took;
 use crate::session::closed;
@@ -19,6 +17,8 @@ use crate::session::fresh;
 use crate::session::unread;
 use crate::session::updated;
 use crate::session::was_reset;
+use cases::line_at;
+use cases::next_line;
 use hasher::Hasher;
 use refusal::is_nothing;
 use stream::Flags;
@@ -66,16 +66,15 @@ pub(crate) fn replay(text: &[u8]) -> Counts {
     let mut lent = no_words();
     let mut at = 0;
     while at < text.len() {
-        let end = find(text, at, b'\n');
-        let line = &text[at..end];
+        let line = line_at(text, at);
         let k = kind_of(line);
         lent = lent_after(lent, k, line);
         let words = lent.words;
-        let t = took(k, h, line, front_words(&words, lent.len));
+        let t = took(k, h, line, words_front(&words, lent.len));
         h = t.hasher;
         n = more(n);
         counts = counted(counts, n, k, t.right);
-        at = after(text, end);
+        at = next_line(text, at);
     }
     counts
 }

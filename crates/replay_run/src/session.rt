@@ -1,17 +1,13 @@
 // The lines of a hasher, one after the other. Each gives whether its answer is the line's, and the hasher for the next.
-ghost use mathlib.Core.Path.{_≡_};
-ghost use mathlib.Core.Bool.{true, false};
-ghost use Rattle.hasher.specs.Hasher.{resetOf};
-ghost use Rattle.replay_run.specs.Fields.{smallAt};
-ghost use Rattle.replay_run.specs.Session.{tookOf, flagsOf, numberOf, freshFrom};
-use crate::fields::front;
-use crate::fields::front_words;
+use crate::fields::bytes_front;
 use crate::fields::is_bytes;
 use crate::fields::is_five;
 use crate::fields::is_mark;
 use crate::fields::run_at;
 use crate::fields::small_at;
 use crate::fields::words_at;
+use crate::fields::words_front;
+use cases::flags_of;
 use finish::Outcome;
 use finish::finish;
 use finish::finish_and_reset;
@@ -29,30 +25,15 @@ pub struct Took {
 }
 
 // A line that can't be read leaves the hasher.
-pub(crate) fn unread(h: Hasher) -> Took
-    ensures { λ r. ⌜ r ≡ tookOf false h ⌝ }
-{
+pub(crate) fn unread(h: Hasher) -> Took {
     Took {
         right: false,
         hasher: h,
     }
 }
 
-// The flags of four bits.
-fn flags_of(bits: usize) -> Flags
-    ensures { λ r. ⌜ r ≡ flagsOf bits ⌝ }
-{
-    Flags::new()
-        .detect_collision(bits % 2 == 1)
-        .safe_hash(bits / 2 % 2 == 1)
-        .use_ubc(bits / 4 % 2 == 1)
-        .reduced_round_collision(bits / 8 % 2 == 1)
-}
-
 // A fresh hasher.
-pub(crate) fn fresh(h: Hasher, line: &[u8]) -> Took
-    ensures { λ r. ⌜ r ≡ freshFrom h (smallAt (now (line .entry)) 1) ⌝ }
-{
+pub(crate) fn fresh(h: Hasher, line: &[u8]) -> Took {
     let bits = small_at(line, 1);
     if 15 < bits {
         return unread(h);
@@ -93,9 +74,9 @@ pub(crate) fn updated(h: Hasher, line: &[u8], table: &[u32]) -> Took {
     let masks = lent.words;
     let u = update(
         h,
-        front(&bytes, piece.len),
+        bytes_front(&bytes, piece.len),
         table,
-        front_words(&masks, lent.len),
+        words_front(&masks, lent.len),
     );
     let hasher = u.hasher;
     Took {
@@ -105,9 +86,7 @@ pub(crate) fn updated(h: Hasher, line: &[u8], table: &[u32]) -> Took {
 }
 
 // The list's number for a verdict.
-fn number_of(v: Verdict) -> usize
-    ensures { λ r. ⌜ r ≡ numberOf v ⌝ }
-{
+fn verdict_number(v: Verdict) -> usize {
     match v {
         Verdict::Ok => 0,
         Verdict::Mitigated => 1,
@@ -117,7 +96,7 @@ fn number_of(v: Verdict) -> usize
 
 fn is_outcome(line: &[u8], i: usize, o: Outcome) -> bool {
     match o {
-        Outcome::Done(v) => small_at(line, i) == number_of(v),
+        Outcome::Done(v) => small_at(line, i) == verdict_number(v),
         Outcome::Refused(r) => false,
     }
 }
@@ -136,7 +115,7 @@ pub(crate) fn finished(h: Hasher, line: &[u8], table: &[u32]) -> Took {
         return unread(h);
     }
     let masks = lent.words;
-    let f = finish(h, table, front_words(&masks, lent.len));
+    let f = finish(h, table, words_front(&masks, lent.len));
     let outcome = f.outcome;
     let digest = f.digest;
     let hasher = f.hasher;
@@ -153,7 +132,7 @@ pub(crate) fn closed(h: Hasher, line: &[u8], table: &[u32]) -> Took {
         return unread(h);
     }
     let masks = lent.words;
-    let c = finish_and_reset(h, &mut out, table, front_words(&masks, lent.len));
+    let c = finish_and_reset(h, &mut out, table, words_front(&masks, lent.len));
     let outcome = c.outcome;
     let hasher = c.hasher;
     Took {
@@ -162,9 +141,7 @@ pub(crate) fn closed(h: Hasher, line: &[u8], table: &[u32]) -> Took {
     }
 }
 
-pub(crate) fn was_reset(h: Hasher) -> Took
-    ensures { λ r. ⌜ r .hasher ≡ resetOf h .hasher ⌝ }
-{
+pub(crate) fn was_reset(h: Hasher) -> Took {
     let u = reset(h);
     let refusal = u.refusal;
     let hasher = u.hasher;

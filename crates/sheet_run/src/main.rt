@@ -1,6 +1,16 @@
 // Runs the barcode sheet on three records, of which the first and the last have the same barcode, and writes a line for
-// each call. The file stdout has what the lines must be.
-use libc::STDOUT_FILENO;
+// each call. The file data/cases.txt has the calls, the file stdout what the lines must be.
+use cases::field;
+use cases::front_bytes;
+use cases::line_at;
+use cases::next_line;
+use cases::number_at;
+use cases::page;
+use cases::read;
+use cases::rest_of;
+use octets::store;
+use printing::say;
+use printing::say_decimal;
 use refusal::Refusal;
 use refusal::number;
 use sheet::Compared;
@@ -10,14 +20,6 @@ use sheet::comparison_word;
 use sheet::lookup;
 use sheet::lookup_refusal;
 use verdict::Verdict;
-
-fn say(text: &[u8]) {
-    io::write_all(STDOUT_FILENO, text);
-}
-
-fn say_number(r: Refusal) {
-    io::print_decimal(STDOUT_FILENO, number(r) as u64);
-}
 
 fn say_letter(b: u8) {
     if b != 0 {
@@ -42,87 +44,85 @@ fn say_comparison(answer: Comparison) {
 
 fn say_refused(r: Refusal) {
     say(b"refused ");
-    say_number(r);
+    say_decimal(number(r) as u64);
+}
+
+// The sheet is the front of field 3.
+fn sheet_of(line: &[u8]) -> &[u8] {
+    front_bytes(field(line, 3), number_at(line, 2))
 }
 
 // The number of a lookup, and the part that it hands back.
-fn look(case: &[u8], records: &[u8], code: &[u8]) {
-    say(case);
-    say_number(lookup_refusal(records, code));
+fn look(line: &[u8]) {
+    let records = sheet_of(line);
+    let code = field(line, 1);
+    say(rest_of(line, 4));
+    say(b": ");
+    say_decimal(number(lookup_refusal(records, code)) as u64);
     say(b" [");
     say(lookup(records, code));
     say(b"]\n");
 }
 
+fn verdict_of(n: usize) -> Verdict {
+    match n {
+        0 => Verdict::Ok,
+        1 => Verdict::Mitigated,
+        _ => Verdict::Collision,
+    }
+}
+
+fn digest_of(bytes: &[u8]) -> [u8; 20] {
+    let mut digest = [0u8; 20];
+    if bytes.len() == 20 {
+        store(&mut digest, 0, bytes, 20);
+    }
+    digest
+}
+
+fn compared(line: &[u8]) -> Compared {
+    let verdict = verdict_of(number_at(line, 4));
+    compare(
+        sheet_of(line),
+        field(line, 1),
+        verdict,
+        digest_of(field(line, 5)),
+    )
+}
+
 // The answer of a comparison.
-fn hold(case: &[u8], records: &[u8], code: &[u8], verdict: Verdict, digest: [u8; 20]) {
-    say(case);
-    match compare(records, code, verdict, digest) {
+fn hold(line: &[u8]) {
+    say(rest_of(line, 6));
+    say(b": ");
+    match compared(line) {
         Compared::Said(answer) => say_comparison(answer),
         Compared::Refused(r) => say_refused(r),
     }
     say(b"\n");
 }
 
-fn found(records: &[u8]) {
-    look(b"first of two: ", records, b"tube-00001-A");
-    look(b"only one: ", records, b"tube-00002-B");
-    look(b"absent: ", records, b"tube-00003-C");
-    look(b"empty sheet: ", b"", b"tube-00001-A");
+// A line of the cases: any but these two is a comment.
+fn one(line: &[u8]) {
+    if line.len() == 0 {
+        return;
+    }
+    match line[0] {
+        b'l' => look(line),
+        b'c' => hold(line),
+        _ => return,
+    }
 }
 
-fn refused(records: &[u8]) {
-    let long = b"tube-00001-Adigest-00-of-tube-A1+";
-    look(b"barcode of 11: ", records, b"tube-00001-");
-    look(b"barcode of 13: ", records, b"tube-00001-AA");
-    look(b"sheet of 33: ", long, b"tube-00001-A");
-    look(b"both wrong: ", long, b"tube-00001-");
-}
-
-// The same digest matches, whatever the verdict.
-fn same(records: &[u8]) {
-    let code = b"tube-00001-A";
-    let digest = *b"digest-00-of-tube-A1";
-    hold(b"ok: ", records, code, Verdict::Ok, digest);
-    hold(b"mitigated: ", records, code, Verdict::Mitigated, digest);
-    hold(b"collision: ", records, code, Verdict::Collision, digest);
-}
-
-// Any other digest differs, also that of the later record with the barcode.
-fn other(records: &[u8]) {
-    let code = b"tube-00001-A";
-    let first = *b"Digest-00-of-tube-A1";
-    let last = *b"digest-00-of-tube-A2";
-    let later = *b"digest-02-of-tube-A2";
-    hold(b"other first byte: ", records, code, Verdict::Ok, first);
-    hold(b"other last byte: ", records, code, Verdict::Ok, last);
-    hold(b"later record: ", records, code, Verdict::Ok, later);
-}
-
-fn no_record(records: &[u8]) {
-    let code = b"tube-00003-C";
-    let digest = *b"digest-00-of-tube-A1";
-    hold(b"no record: ", records, code, Verdict::Ok, digest);
-    hold(b"empty sheet: ", b"", code, Verdict::Collision, digest);
-}
-
-fn no_answer(records: &[u8]) {
-    let short = b"tube-00001-";
-    let code = b"tube-00001-A";
-    let digest = *b"digest-00-of-tube-A1";
-    let long = b"tube-00001-Adigest-00-of-tube-A1+";
-    hold(b"barcode of 11: ", records, short, Verdict::Ok, digest);
-    hold(b"sheet of 33: ", long, code, Verdict::Ok, digest);
-    hold(b"both wrong: ", long, short, Verdict::Ok, digest);
+fn each(text: &[u8]) {
+    let mut at = 0;
+    while at < text.len() {
+        one(line_at(text, at));
+        at = next_line(text, at);
+    }
 }
 
 fn main() {
-    let records =
-        b"tube-00001-Adigest-00-of-tube-A1tube-00002-Bdigest-01-of-tube-B1tube-00001-Adigest-02-of-tube-A2";
-    found(records);
-    refused(records);
-    same(records);
-    other(records);
-    no_record(records);
-    no_answer(records);
+    let mut text = page();
+    let n = read(b"cases.txt", &mut text);
+    each(&text[..n]);
 }

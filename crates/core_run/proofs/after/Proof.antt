@@ -15,6 +15,9 @@ abbrev μ-loop : tie.MeasureT-loop
 μ-loop m n table mode w₀ i₀ w i = n - i
 
 -- src/main.rt:167:9
+mode-of-requires : tie.Need-mode-of-requires Inv-loop μ-loop
+mode-of-requires c κs = search needs
+
 start-requires : tie.Need-start-requires Inv-loop μ-loop
 start-requires c κs = search needs
 
@@ -48,6 +51,7 @@ after-spec =
     (tie.spec
     Inv-loop
     μ-loop
+    mode-of-requires
     start-requires
     loop-holds
     run-requires

@@ -5,13 +5,16 @@ use Rattle.hasher_run.proofs.line.each_mode.Statement.{statement}
 use Rattle.hasher_run.proofs.line.each_mode.Tie as tie
 
 abbrev Inv-loop : tie.InvT-loop
-Inv-loop m table masks bits₀ bits = bits ≤ 16
+Inv-loop line m table masks bits₀ bits = bits ≤ 16
 
 abbrev μ-loop : tie.MeasureT-loop
-μ-loop m table masks bits₀ bits = 16 - bits
+μ-loop line m table masks bits₀ bits = 16 - bits
 
 loop-holds : tie.Need-loop-holds Inv-loop μ-loop
 loop-holds c = search needs
+
+turned-requires : tie.Need-turned-requires Inv-loop μ-loop
+turned-requires c κs = search needs
 
 flags-of-requires : tie.Need-flags-of-requires Inv-loop μ-loop
 flags-of-requires c κs = search needs
@@ -38,6 +41,7 @@ each-mode-spec =
     Inv-loop
     μ-loop
     loop-holds
+    turned-requires
     flags-of-requires
     whole-requires
     add-bits

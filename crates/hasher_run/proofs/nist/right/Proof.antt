@@ -5,10 +5,19 @@ use Rattle.hasher_run.proofs.nist.right.Statement.{statement}
 use Rattle.hasher_run.proofs.nist.right.Tie as tie
 
 abbrev Inv-loop : tie.InvT-loop
-Inv-loop way file cut table masks h₀ count₀ at₀ i₀ h count at i = (i ≤ 65) × ((count ≤ i) × (at ≤ 276 * i))
+Inv-loop line file table masks way h₀ count₀ at₀ i₀ h count at i = (i ≤ 65) × ((count ≤ i) × (at ≤ 276 * i))
 
 abbrev μ-loop : tie.MeasureT-loop
-μ-loop way file cut table masks h₀ count₀ at₀ i₀ h count at i = 65 - i
+μ-loop line file table masks way h₀ count₀ at₀ i₀ h count at i = 65 - i
+
+number-at-requires : tie.Need-number-at-requires Inv-loop μ-loop
+number-at-requires c κs = search needs
+
+number-at-requires-2 : tie.Need-number-at-requires-2 Inv-loop μ-loop
+number-at-requires-2 c κs = search needs
+
+flags-of-requires : tie.Need-flags-of-requires Inv-loop μ-loop
+flags-of-requires c κs = search needs
 
 new-requires : tie.Need-new-requires Inv-loop μ-loop
 new-requires c κs = search needs
@@ -25,6 +34,9 @@ add-part c = search needs
 part-requires : tie.Need-part-requires Inv-loop μ-loop
 part-requires c κs = search needs
 
+end-by-requires : tie.Need-end-by-requires Inv-loop μ-loop
+end-by-requires c κs = search needs
+
 add-part-2 : tie.Need-add-part-2 Inv-loop μ-loop
 add-part-2 c = search needs
 
@@ -34,8 +46,8 @@ add-part-3 c = search needs
 part-requires-2 : tie.Need-part-requires-2 Inv-loop μ-loop
 part-requires-2 c κs = search needs
 
-one-requires : tie.Need-one-requires Inv-loop μ-loop
-one-requires c κs = search needs
+equal-requires : tie.Need-equal-requires Inv-loop μ-loop
+equal-requires c κs = search needs
 
 add-count : tie.Need-add-count Inv-loop μ-loop
 add-count c = search needs
@@ -64,15 +76,19 @@ right-spec =
     (tie.spec
     Inv-loop
     μ-loop
+    number-at-requires
+    number-at-requires-2
+    flags-of-requires
     new-requires
     loop-holds
     byte-at-requires
     add-part
     part-requires
+    end-by-requires
     add-part-2
     add-part-3
     part-requires-2
-    one-requires
+    equal-requires
     add-count
     add-at
     add-at-2

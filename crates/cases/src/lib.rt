@@ -6,7 +6,7 @@ ghost use Rattle.io.specs.Counts.{Counts};
 ghost use Rattle.cases.specs.Lines.{space, newline, oneIf, countOf, foundAt, placeAfter, startOf, fieldOf, restOf, lineAt};
 ghost use Rattle.cases.specs.Numbers.{withDigit, decimalOf, numberAt, wordAt, flagsOf};
 use printing::say;
-use stream::Flags;
+use flags::Flags;
 
 // Bytes in the longest text, and words in the longest table.
 pub const MOST_TEXT: usize = 262144;

@@ -2,12 +2,12 @@
 // table is the control record, which marks every block.
 use finish::finish;
 use hasher::Hasher;
-use hasher::update;
+use update::update;
 use printing::say;
 use printing::say_answer;
 use printing::say_refusal;
 use refusal::is_nothing;
-use stream::Flags;
+use flags::Flags;
 
 fn main() {
     let mut table = [0u32; 82];

@@ -5,10 +5,10 @@ use finish::Finished;
 use finish::Outcome;
 use finish::finish;
 use finish::finish_and_reset;
-use finish::one_shot;
+use one_shot::one_shot;
 use hasher::Hasher;
 use hasher::reset;
-use hasher::update;
+use update::update;
 
 // What came of a message, and the hasher for the next.
 pub struct Ended {

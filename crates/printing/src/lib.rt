@@ -5,8 +5,8 @@ use libc::STDOUT_FILENO;
 use refusal::Refusal;
 use refusal::number;
 use refusal::place;
-use stream::Flags;
-use stream::Masks;
+use flags::Flags;
+use flags::Masks;
 use verdict::Verdict;
 
 pub fn say(text: &[u8]) {

@@ -10,7 +10,7 @@ use Rattle.word.specs.Choice.{pick}
 use Rattle.refusal.specs.Refusal.{isNothing}
 use Rattle.refusal.specs.declared.Refusal.{Refusal}
 use Rattle.refusal.specs.declared.Refusal.the-variants.{TableLength}
-use Rattle.stream.specs.declared.Flags.{Flags}
+use Rattle.flags.specs.declared.Flags.{Flags}
 use Rattle.hasher.specs.Hasher.{freshOf}
 use Rattle.table_file.specs.File.{mostWords, mostFileBytes, tableOf, fileFault}
 use Rattle.table_file.proofs.Short.{short}

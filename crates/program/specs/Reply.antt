@@ -6,7 +6,7 @@ use Prim.Native.Nat.{ℕ, _+_}
 use lib.ListN.{replicate}
 use Rattle.word.specs.Choice.{pick}
 use Rattle.refusal.specs.Refusal.{isNothing}
-use Rattle.stream.specs.declared.Flags.{Flags}
+use Rattle.flags.specs.declared.Flags.{Flags}
 use Rattle.hasher.specs.Hasher.{freshOf}
 use Rattle.table_file.specs.File.{mostFileBytes, tableOf, fileFault}
 use Rattle.verdict.specs.Verdict.{digestSize}

@@ -14,7 +14,7 @@ use finish::Finished;
 use finish::Outcome;
 use finish::finish;
 use hasher::Hasher;
-use hasher::update;
+use update::update;
 use line::Saying;
 use refusal::Refusal;
 use refusal::is_nothing;

@@ -12,8 +12,8 @@ use Rattle.step.specs.Step.{stepWith, fAt, kAt, stepAt, stepsOf}
 use Rattle.block.specs.Schedule.{scheduled}
 use Rattle.block.specs.Compress.{overSchedule, compressOf}
 use Rattle.verdict.specs.declared.Verdict.the-variants.{Ok}
-use Rattle.stream.specs.Fips.{be64, hashBlocks, digestOf, sha1}
-use Rattle.stream.specs.declared.Flags.{Flags}
+use Rattle.fips.specs.Fips.{be64, hashBlocks, digestOf, sha1}
+use Rattle.flags.specs.declared.Flags.{Flags}
 use Rattle.hasher.specs.Hasher.{mostBytes}
 use Rattle.arguments.specs.Arguments.{settingOf, flagsOf}
 use Rattle.line.specs.Line.{hexOf, verdictText, lineOf}

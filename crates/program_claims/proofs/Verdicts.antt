@@ -10,7 +10,7 @@ use Rattle.refusal.specs.Refusal.{isNothing}
 use Rattle.refusal.specs.declared.Refusal.{Refusal}
 use Rattle.refusal.proofs.Chains.{nothing-is}
 use Rattle.verdict.specs.declared.Verdict.{Verdict}
-use Rattle.stream.specs.declared.Flags.{Flags}
+use Rattle.flags.specs.declared.Flags.{Flags}
 use Rattle.hasher.specs.Hasher.{freshOf}
 use Rattle.table_file.specs.File.{mostFileBytes, tableOf, fileFault}
 use Rattle.finish.specs.Finish.{finished}

@@ -6,7 +6,7 @@ use Prim.Native.Nat.{ℕ, _+_}
 use lib.IntN.{pos}
 use Rattle.refusal.specs.Refusal.{isNothing}
 use Rattle.verdict.specs.declared.Verdict.{Verdict}
-use Rattle.stream.specs.declared.Flags.{Flags}
+use Rattle.flags.specs.declared.Flags.{Flags}
 use Rattle.hasher.specs.Hasher.{freshOf}
 use Rattle.table_file.specs.File.{mostFileBytes, tableOf, fileFault}
 use Rattle.finish.specs.declared.Outcome.the-variants.{Done}

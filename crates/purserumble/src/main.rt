@@ -32,7 +32,7 @@ use program::no_intake;
 use program::plan_of;
 use program::table_check;
 use program::without_digest;
-use stream::Flags;
+use flags::Flags;
 use table_file::file_words;
 
 // Bytes in `table=`.

@@ -3,8 +3,8 @@ use hasher::Hasher;
 use octets::same_bytes;
 use step::regs_of;
 use step::same_regs;
-use stream::Flags;
-use stream::Masks;
+use flags::Flags;
+use flags::Masks;
 
 fn same_pending(a: &[u8; 64], b: &[u8; 64]) -> bool {
     same_bytes(a, b)

@@ -21,7 +21,7 @@ use cases::line_at;
 use cases::next_line;
 use hasher::Hasher;
 use refusal::is_nothing;
-use stream::Flags;
+use flags::Flags;
 use table::table_fault;
 
 // The table lent after a line.

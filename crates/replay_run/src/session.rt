@@ -14,9 +14,9 @@ use finish::finish_and_reset;
 use hasher::Hasher;
 use hasher::Updated;
 use hasher::reset;
-use hasher::update;
+use update::update;
 use refusal::is_nothing;
-use stream::Flags;
+use flags::Flags;
 use verdict::Verdict;
 
 pub struct Took {

@@ -12,7 +12,8 @@ use Rattle.word.proofs.Tests.{of-either}
 use Rattle.step.specs.Step.{Words}
 use Rattle.step.specs.declared.Regs.{Regs}
 use Rattle.block.specs.Compress.{overSchedule, compressOf}
-use Rattle.stream.specs.Fips.{be64, zerosFor, padded, initial}
+use Rattle.octets.specs.Octets.{bytes64}
+use Rattle.fips.specs.Fips.{zerosFor, paddingFor, padded, initial}
 use Rattle.stream.specs.Fold.{allBits}
 use Rattle.claims.specs.Sibling.{AllBytes}
 use Rattle.claims.specs.Marked.{hashMarked, blockAt}
@@ -41,37 +42,38 @@ more-bytes : (x : ℕ) (xs : List ℕ) → x < 256 → AllBytes xs → AllBytes 
 more-bytes x xs l h zero = l
 more-bytes x xs l h (suc i) = h i
 
-append-bytes : (xs ys : List ℕ) → AllBytes xs → AllBytes ys → AllBytes (xs ++ ys)
+pub append-bytes : (xs ys : List ℕ) → AllBytes xs → AllBytes ys → AllBytes (xs ++ ys)
 append-bytes [] ys h k = k
 append-bytes (x ∷ xs) ys h k = more-bytes x (xs ++ ys) (h 0) (append-bytes xs ys (λ i. h (suc i)) k)
 
-zeros-bytes : (n : ℕ) → AllBytes (replicate n 0)
+pub zeros-bytes : (n : ℕ) → AllBytes (replicate n 0)
 zeros-bytes zero = none-bytes
 zeros-bytes (suc n) = more-bytes 0 (replicate n 0) (lit< tt) (zeros-bytes n)
 
-take-bytes : (n : ℕ) (xs : List ℕ) → AllBytes xs → AllBytes (take n xs)
+pub take-bytes : (n : ℕ) (xs : List ℕ) → AllBytes xs → AllBytes (take n xs)
 take-bytes zero xs h = none-bytes
 take-bytes (suc n) [] h = none-bytes
 take-bytes (suc n) (x ∷ xs) h = more-bytes x (take n xs) (h 0) (take-bytes n xs (λ i. h (suc i)))
 
-drop-bytes : (n : ℕ) (xs : List ℕ) → AllBytes xs → AllBytes (drop n xs)
+pub drop-bytes : (n : ℕ) (xs : List ℕ) → AllBytes xs → AllBytes (drop n xs)
 drop-bytes n xs h i = subst (λ (x : ℕ). x < 256) (sym (getD-drop n xs i 0)) (h (n + i))
 
 remainders-bytes : (xs : List ℕ) → AllBytes (map (λ x. x % 256) xs)
 remainders-bytes [] = none-bytes
 remainders-bytes (x ∷ xs) = more-bytes (x % 256) (map (λ y. y % 256) xs) (mod-lt x (lit< tt)) (remainders-bytes xs)
 
-length-bytes : (x : ℕ) → AllBytes (be64 x)
-unfolding be64
+length-bytes : (x : ℕ) → AllBytes (bytes64 x)
+unfolding bytes64
 length-bytes x =
     remainders-bytes (x / 2 ^ 56 ∷ x / 2 ^ 48 ∷ x / 2 ^ 40 ∷ x / 2 ^ 32 ∷ x / 2 ^ 24 ∷ x / 2 ^ 16 ∷ x / 2 ^ 8 ∷ x ∷ [])
 
-padded-bytes : (msg : List ℕ) → AllBytes msg → AllBytes (padded msg)
-padded-bytes msg h =
-    let zeros : List ℕ = replicate (zerosFor (length msg)) 0 in
-    let size = be64 (8 * length msg) in
-    append-bytes msg ((0x80 ∷ zeros) ++ size) h
-    (append-bytes (0x80 ∷ zeros) size (more-bytes 0x80 zeros (lit< tt) (zeros-bytes (zerosFor (length msg)))) (length-bytes (8 * length msg)))
+pub padding-bytes : (n : ℕ) → AllBytes (paddingFor n)
+padding-bytes n =
+    let zeros : List ℕ = replicate (zerosFor n) 0 in
+    append-bytes (0x80 ∷ zeros) (bytes64 (8 * n)) (more-bytes 0x80 zeros (lit< tt) (zeros-bytes (zerosFor n))) (length-bytes (8 * n))
 
-pub block-bytes : (msg : List ℕ) (i : ℕ) → AllBytes msg → AllBytes (blockAt msg i)
-block-bytes msg i h = take-bytes 64 (drop (64 * i) (padded msg)) (drop-bytes (64 * i) (padded msg) (padded-bytes msg h))
+pub padded-bytes : (msg : List ℕ) → AllBytes msg → AllBytes (padded msg)
+padded-bytes msg h = append-bytes msg (paddingFor (length msg)) h (padding-bytes (length msg))
+
+pub block-bytes : (xs : List ℕ) (i : ℕ) → AllBytes xs → AllBytes (blockAt xs i)
+block-bytes xs i h = take-bytes 64 (drop (64 * i) xs) (drop-bytes (64 * i) xs h)

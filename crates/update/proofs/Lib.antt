@@ -1,2 +1,3 @@
 pub mod Moves
 pub mod Taken
+pub mod Absorbed

@@ -15,7 +15,7 @@ pub mod Verdicts
 pub mod Refusals
 pub mod Formed
 pub mod Kept
-pub mod Close
+pub mod FinishReset
 pub mod Settled
 pub mod Unseen
 -- the laws that they lean on

@@ -1,63 +1,95 @@
--- Demand 2, cutting: the one-shot form is the updates and the finish with the default flags. Assumes nothing.
+-- Demand 2, cutting: a whole message in one call is the updates and the finish with the same flags, and the one-shot form that with the
+-- default flags. Assumes nothing.
 use mathlib.Core.Path.{_≡_, refl, ap, _∙_}
+use mathlib.Core.Bool.{true}
 use mathlib.Core.List.{List, [], _∷_, _++_, append-nil}
-use Prim.Native.Nat.{ℕ, _/_, _%_}
+use Prim.Native.Nat.{ℕ, _/_}
 use native.Mathlib.Omega.{arith}
 use lib.ListN.{length, length-append}
 use Rattle.refusal.specs.declared.Refusal.the-variants.{Nothing}
-use Rattle.verdict.specs.Verdict.{digestSize}
-use Rattle.stream.specs.Flags.{defaults}
-use Rattle.hasher.specs.Hasher.{updated, freshOf}
-use Rattle.finish.specs.Finish.{tailBlocks, oneShotRefusal, oneShotChain, digested}
-use Rattle.finish.proofs.Closing.{finish-closing}
-use Rattle.finish.proofs.Whole.{Whole, shot-whole, whole-shot}
-use Rattle.claims.specs.Pieces.{Piece, bytesOf, lentMasks, taking, hashed, inTwo, NoneRefused, InTurn}
-use Rattle.claims.proofs.Kept.{fresh-sound, pieces-flags}
+use Rattle.flags.specs.Flags.{usesMasks, defaults}
+use Rattle.flags.specs.declared.Flags.{Flags}
+use Rattle.stream.specs.Loan.{Tables, lend}
+use Rattle.stream.proofs.Loans.{Accepted, loan-accepted, accepted-loan}
+use Rattle.hasher.specs.Hasher.{freshOf}
+use Rattle.update.specs.Update.{updated}
+use Rattle.one_shot.specs.Whole.{blocksOf, wholeRefusal, wholeOf, digested}
+use Rattle.one_shot.proofs.Fed.{refusal-whole, whole-refusal}
+use Rattle.claims.specs.Pieces.{Piece, bytesOf, lentMasks, taking, hashed, inTwo, loanOfAll, NoneRefused, InTurn}
+use Rattle.claims.proofs.Kept.{fresh-sound}
 use Rattle.claims.proofs.Cut.{cut-joined}
-use Rattle.claims.proofs.Whole.{masks-counted, short-is, fill-is, hashed-by}
+use Rattle.claims.proofs.Whole.{masks-counted, short-is, last-accepted, hashed-by}
 use Rattle.claims.proofs.Every.{none-refused}
 
-module _ (table : List ℕ) (ps : List Piece) (last : List ℕ) where
-  -- the one-shot form is not refused where the updates and the finish are not
-  taken-whole : NoneRefused defaults table ps last → Whole (bytesOf ps) table (lentMasks ps ++ last)
-  taken-whole ok =
+module _ (f : Flags) (t : Tables) (ps : List Piece) (last : List ℕ) where
+  -- One call is not refused where the updates and the finish are not.
+  pub whole-taken : NoneRefused f t ps last → wholeRefusal f (length (bytesOf ps)) (loanOfAll t ps last) ≡ Nothing
+  whole-taken ok =
       let e = ok .updates in
-      let a = finish-closing (taking defaults table ps .hasher) digestSize table last (ok .finish) in
-      let flags = pieces-flags (freshOf defaults) table ps in
-      let m = masks-counted defaults table ps e refl in
-      let l : length last ≡ tailBlocks (length (bytesOf ps) % 64) = rw (fill-is defaults table ps e) at (a .counts (rw flags)) in
-      record {
-        short = short-is defaults table ps e;
-        counts = omega (arith, length-append (lentMasks ps) last);
-        good = rw flags at (a .good);
-      }
+      let a = last-accepted f t ps last ok in
+      whole-refusal f (length (bytesOf ps)) (loanOfAll t ps last)
+      (record {
+        short = short-is f t ps e;
+        loan =
+            accepted-loan f (loanOfAll t ps last) (blocksOf (length (bytesOf ps)))
+            (record {
+              counts = λ u.
+                  let m = masks-counted f t ps e u in
+                  let n = a .counts u in
+                  omega (arith, length-append (lentMasks ps) last);
+              good = a .good;
+            });
+      })
 
-  -- Where neither an update nor the finish is refused, the one-shot form has their outcome and digest.
-  pub one-shot-agrees : NoneRefused defaults table ps last
-      → digested (bytesOf ps) table (lentMasks ps ++ last)
-      ≡ record { outcome = hashed defaults table ps last .outcome; digest = hashed defaults table ps last .digest }
-  unfolding digested oneShotChain
-  one-shot-agrees ok =
-      rw (whole-shot (bytesOf ps) table (lentMasks ps ++ last) (taken-whole ok), hashed-by defaults table ps last ok)
+  -- It has their outcome and digest then.
+  pub whole-agrees : NoneRefused f t ps last
+      → wholeOf f (bytesOf ps) (loanOfAll t ps last) ≡ record { outcome = hashed f t ps last .outcome; digest = hashed f t ps last .digest }
+  unfolding wholeOf
+  whole-agrees ok = rw (whole-taken ok, hashed-by f t ps last ok)
 
-  -- What the one-shot form takes, the updates and the finish take, with each block's mask in its turn.
-  pub one-shot-cut : InTurn ps last → oneShotRefusal (length (bytesOf ps)) table (lentMasks ps ++ last) ≡ Nothing → NoneRefused defaults table ps last
-  one-shot-cut turn e =
-      let w = shot-whole (bytesOf ps) table (lentMasks ps ++ last) e in
-      none-refused defaults table ps last (w .short) (w .good) (λ u. turn)
+  -- What one call takes, the updates and the finish take, with each block's mask in its turn, if they are looked at.
+  pub whole-cut : (usesMasks f ≡ true → InTurn ps last) → wholeRefusal f (length (bytesOf ps)) (loanOfAll t ps last) ≡ Nothing → NoneRefused f t ps last
+  whole-cut turn e =
+      let w = refusal-whole f (length (bytesOf ps)) (loanOfAll t ps last) e in
+      none-refused f t ps last (w .short) (loan-accepted f (loanOfAll t ps last) (blocksOf (length (bytesOf ps))) (w .loan) .good) turn
 
--- So the one-shot form, not refused, has the outcome and digest of one update, with the masks of the whole blocks, and a finish, with the rest.
-pub one-shot-two : (bytes table first last : List ℕ) → length first ≡ length bytes / 64 → oneShotRefusal (length bytes) table (first ++ last) ≡ Nothing
-    → digested bytes table (first ++ last) ≡ record { outcome = inTwo bytes table first last .outcome; digest = inTwo bytes table first last .digest }
-one-shot-two bytes table first last m e =
+-- So one call, not refused, has the outcome and digest of one update, with the masks of the whole blocks, and a finish, with the rest.
+pub whole-two : (f : Flags) (t : Tables) (bytes first last : List ℕ) → (usesMasks f ≡ true → length first ≡ length bytes / 64)
+    → wholeRefusal f (length bytes) (lend t (first ++ last)) ≡ Nothing
+    → wholeOf f bytes (lend t (first ++ last)) ≡ record { outcome = inTwo f t bytes first last .outcome; digest = inTwo f t bytes first last .digest }
+whole-two f t bytes first last m e =
     let p : Piece = record { bytes = bytes; masks = first } in
     let b = append-nil bytes in
     let c = append-nil first in
-    let l = ap length b in
-    let k = shot-whole bytes table (first ++ last) e .counts in
-    let turn : InTurn (p ∷ []) last = record { updates = (omega arith, tt); finish = rw l (omega (arith, length-append first last)) } in
-    let ok = one-shot-cut table (p ∷ []) last turn (rw (b, c) e) in
-    let u : taking defaults table (p ∷ []) ≡ updated (freshOf defaults) bytes table first =
-    cut-joined (freshOf defaults) (fresh-sound defaults .size) table p [] (ok .updates) ∙ rw (b, c)
+    let n = ap length b in
+    let k : Accepted f (lend t (first ++ last)) (blocksOf (length bytes)) =
+    loan-accepted f (lend t (first ++ last)) (blocksOf (length bytes)) (refusal-whole f (length bytes) (lend t (first ++ last)) e .loan)
     in
-    rw u at (rw (b, c) at (one-shot-agrees table (p ∷ []) last ok))
+    let turn : usesMasks f ≡ true → InTurn (p ∷ []) last =
+    λ u.
+    let x = m u in
+    let y = k .counts u in
+    record { updates = (omega arith, tt); finish = rw n (omega (arith, length-append first last)) }
+    in
+    let ok = whole-cut f t (p ∷ []) last turn (rw (b, c) e) in
+    let u : taking f t (p ∷ []) ≡ updated (freshOf f) bytes (lend t first) =
+    cut-joined (freshOf f) (fresh-sound f .size) t p [] (ok .updates) ∙ rw (b, c)
+    in
+    rw u at (rw (b, c) at (whole-agrees f t (p ∷ []) last ok))
+
+module _ (t : Tables) (ps : List Piece) (last : List ℕ) where
+  -- Where neither an update nor the finish is refused, the one-shot form has their outcome and digest.
+  pub one-shot-agrees : NoneRefused defaults t ps last
+      → digested (bytesOf ps) (loanOfAll t ps last) ≡ record { outcome = hashed defaults t ps last .outcome; digest = hashed defaults t ps last .digest }
+  one-shot-agrees ok = whole-agrees defaults t ps last ok
+
+  -- What the one-shot form takes, the updates and the finish take, with each block's mask in its turn.
+  pub one-shot-cut : InTurn ps last → wholeRefusal defaults (length (bytesOf ps)) (loanOfAll t ps last) ≡ Nothing → NoneRefused defaults t ps last
+  one-shot-cut turn e = whole-cut defaults t ps last (λ u. turn) e
+
+-- So the one-shot form, not refused, has the outcome and digest of one update, with the masks of the whole blocks, and a finish, with the rest.
+pub one-shot-two : (t : Tables) (bytes first last : List ℕ) → length first ≡ length bytes / 64
+    → wholeRefusal defaults (length bytes) (lend t (first ++ last)) ≡ Nothing
+    → digested bytes (lend t (first ++ last))
+    ≡ record { outcome = inTwo defaults t bytes first last .outcome; digest = inTwo defaults t bytes first last .digest }
+one-shot-two t bytes first last m e = whole-two defaults t bytes first last (λ u. m) e

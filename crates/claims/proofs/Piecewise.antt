@@ -9,120 +9,153 @@ use Rattle.word.specs.Choice.{pick}
 use Rattle.refusal.specs.Refusal.{isNothing}
 use Rattle.refusal.specs.declared.Refusal.the-variants.{Nothing}
 use Rattle.word.proofs.Tests.{of-either}
-use Rattle.stream.specs.Flags.{usesMasks}
-use Rattle.hasher.specs.Hasher.{mostBytes, wellFormed, taken, tableRefusal, absorbed, updated}
+use Rattle.fips.specs.Fips.{mostBytes}
+use Rattle.flags.specs.Flags.{usesMasks}
+use Rattle.stream.specs.Loan.{Tables, Loan, lend, tablesRefusal}
+use Rattle.stream.proofs.Loans.{Accepted, loan-accepted, accepted-loan}
+use Rattle.refusal.proofs.Passed.{of-refusal}
+use Rattle.hasher.specs.Hasher.{wellFormed, taken}
 use Rattle.hasher.specs.declared.Hasher.{Hasher}
 use Rattle.hasher.specs.declared.Updated.{Updated}
-use Rattle.hasher.proofs.Absorbed.{taken-after}
 use Rattle.hasher.proofs.Formed.{formed}
-use Rattle.hasher.proofs.Moves.{stream-long}
-use Rattle.hasher.proofs.Taken.{of-refusal, Taken, update-taken, taken-update}
+use Rattle.update.specs.Update.{blocksFilled, absorbed, updated}
+use Rattle.update.proofs.Moves.{stream-long}
+use Rattle.update.proofs.Taken.{Taken, update-taken, taken-update}
+use Rattle.update.proofs.Absorbed.{flags-after, fill-after, taken-after, formed-after}
 use Rattle.claims.specs.Sound.{Sized, Sound}
 use Rattle.claims.specs.Pieces.{Piece, bytesOf, lentMasks, piecewise, Counted}
 use Rattle.claims.proofs.Updates.{absorb-cut}
-use Rattle.claims.proofs.After.{flags-after, sized-after, fill-after, formed-after}
+use Rattle.claims.proofs.After.{sized-after}
 use Rattle.claims.proofs.Empty.{absorb-none}
 
-pub piecewise-nil : (h : Hasher) (table : List ℕ) → piecewise h table [] ≡ record { refusal = Nothing; hasher = h }
+pub piecewise-nil : (h : Hasher) (t : Tables) → piecewise h t [] ≡ record { refusal = Nothing; hasher = h }
 unfolding piecewise
-piecewise-nil h table = refl
+piecewise-nil h t = refl
 
-pub piecewise-cons : (h : Hasher) (table : List ℕ) (p : Piece) (ps : List Piece)
-    → piecewise h table (p ∷ ps)
-    ≡ pick (isNothing (updated h (p .bytes) table (p .masks) .refusal)) (piecewise (updated h (p .bytes) table (p .masks) .hasher) table ps) (updated h (p .bytes) table (p .masks))
+-- what is lent with a piece
+abbrev pub lentWith : Tables → Piece → Loan
+lentWith t p = lend t (p .masks)
+
+-- the update with a piece, and the hasher after it where it is not refused
+abbrev pub updatedBy : Hasher → Tables → Piece → Updated
+updatedBy h t p = updated h (p .bytes) (lentWith t p)
+
+abbrev pub absorbedBy : Hasher → Tables → Piece → Hasher
+absorbedBy h t p = absorbed h (p .bytes) (lentWith t p)
+
+pub piecewise-cons : (h : Hasher) (t : Tables) (p : Piece) (ps : List Piece)
+    → piecewise h t (p ∷ ps) ≡ pick (isNothing (updatedBy h t p .refusal)) (piecewise (updatedBy h t p .hasher) t ps) (updatedBy h t p)
 unfolding piecewise
-piecewise-cons h table p ps = refl
+piecewise-cons h t p ps = refl
 
-module _ (h : Hasher) (table : List ℕ) (p : Piece) (ps : List Piece) where
-  pub first-taken : piecewise h table (p ∷ ps) .refusal ≡ Nothing → Taken h (p .bytes) table (p .masks)
+module _ (h : Hasher) (t : Tables) (p : Piece) (ps : List Piece) where
+  pub first-taken : piecewise h t (p ∷ ps) .refusal ≡ Nothing → Taken h (p .bytes) (lentWith t p)
   first-taken e =
-      let u = updated h (p .bytes) table (p .masks) in
-      update-taken h (p .bytes) table (p .masks)
-      (of-refusal (λ (v : Updated). v .refusal ≡ Nothing → u .refusal ≡ Nothing) (u .refusal) (piecewise (u .hasher) table ps) u (λ k l. k) (λ k l. l)
-      (rw (piecewise-cons h table p ps) at e))
+      let u = updatedBy h t p in
+      update-taken h (p .bytes) (lentWith t p)
+      (of-refusal (λ (v : Updated). v .refusal ≡ Nothing → u .refusal ≡ Nothing) (u .refusal) (piecewise (u .hasher) t ps) u (λ k l. k) (λ k l. l)
+      (rw (piecewise-cons h t p ps) at e))
 
-  pub piecewise-next : Taken h (p .bytes) table (p .masks)
-      → piecewise h table (p ∷ ps) ≡ piecewise (absorbed h (p .bytes) table (p .masks)) table ps
-  piecewise-next a = rw (piecewise-cons h table p ps, taken-update h (p .bytes) table (p .masks) a)
+  pub piecewise-next : Taken h (p .bytes) (lentWith t p) → piecewise h t (p ∷ ps) ≡ piecewise (absorbedBy h t p) t ps
+  piecewise-next a = rw (piecewise-cons h t p ps, taken-update h (p .bytes) (lentWith t p) a)
+
+-- what an update that is not refused is lent
+pub taken-accepted : (h : Hasher) (bytes : List ℕ) (l : Loan) → Taken h bytes l → Accepted (h .flags) l (blocksFilled h (length bytes))
+taken-accepted h bytes l a = loan-accepted (h .flags) l (blocksFilled h (length bytes)) (a .loan)
 
 -- two updates that are not refused, as one
-taken-cut : (h : Hasher) (d e table ms ns : List ℕ) → length (h .pending) ≡ 64
-    → Taken h d table ms → Taken (absorbed h d table ms) e table ns → Taken h (d ++ e) table (ms ++ ns)
-taken-cut h d e table ms ns long a b =
+taken-cut : (h : Hasher) (t : Tables) (d e ms ns : List ℕ) → length (h .pending) ≡ 64
+    → Taken h d (lend t ms) → Taken (absorbed h d (lend t ms)) e (lend t ns) → Taken h (d ++ e) (lend t (ms ++ ns))
+taken-cut h t d e ms ns long a b =
+    let g = absorbed h d (lend t ms) in
     let below = formed h (a .well) .fill-le in
-    let t = taken-after h d table ms long a in
-    let f = fill-after h d table ms long below in
-    let g : usesMasks (absorbed h d table ms .flags) ≡ usesMasks (h .flags) = ap usesMasks (flags-after h d table ms) in
+    let n = taken-after h d (lend t ms) long a in
+    let f = fill-after h d (lend t ms) long below in
+    let same : usesMasks (g .flags) ≡ usesMasks (h .flags) = ap usesMasks (flags-after h d (lend t ms)) in
+    let first = taken-accepted h d (lend t ms) a in
+    let second = taken-accepted g e (lend t ns) b in
     record {
       well = a .well;
       fits = let x = b .fits in omega (arith, length-append d e);
-      counts = λ u.
-          let x = a .counts u in
-          let y = b .counts (g ∙ u) in
-          omega (arith, length-append d e, length-append ms ns);
-      good = a .good;
+      loan =
+          accepted-loan (h .flags) (lend t (ms ++ ns)) (blocksFilled h (length (d ++ e)))
+          (record {
+            counts = λ u.
+                let x = first .counts u in
+                let y = second .counts (same ∙ u) in
+                omega (arith, length-append d e, length-append ms ns);
+            good = first .good;
+          });
     }
 
-pub pieces-taken : (p : Piece) (ps : List Piece) (h : Hasher) (table : List ℕ) → Sized h → piecewise h table (p ∷ ps) .refusal ≡ Nothing
-    → Taken h (bytesOf (p ∷ ps)) table (lentMasks (p ∷ ps))
-pieces-taken p [] h table size e = rw (append-nil (p .bytes), append-nil (p .masks)) (first-taken h table p [] e)
-pieces-taken p (q ∷ ps) h table size e =
-    let a = first-taken h table p (q ∷ ps) e in
-    let i = pieces-taken q ps _ table (sized-after h (p .bytes) table (p .masks)) (rw (piecewise-next h table p (q ∷ ps) a) at e) in
-    taken-cut h (p .bytes) (bytesOf (q ∷ ps)) table (p .masks) (lentMasks (q ∷ ps)) (size .pending-size) a i
+pub pieces-taken : (p : Piece) (ps : List Piece) (h : Hasher) (t : Tables) → Sized h → piecewise h t (p ∷ ps) .refusal ≡ Nothing
+    → Taken h (bytesOf (p ∷ ps)) (lend t (lentMasks (p ∷ ps)))
+pieces-taken p [] h t size e = rw (append-nil (p .bytes), append-nil (p .masks)) (first-taken h t p [] e)
+pieces-taken p (q ∷ ps) h t size e =
+    let a = first-taken h t p (q ∷ ps) e in
+    let i = pieces-taken q ps _ t (sized-after h (p .bytes) (lentWith t p)) (rw (piecewise-next h t p (q ∷ ps) a) at e) in
+    taken-cut h t (p .bytes) (bytesOf (q ∷ ps)) (p .masks) (lentMasks (q ∷ ps)) (size .pending-size) a i
 
-pub pieces-absorbed : (ps : List Piece) (h : Hasher) (table : List ℕ) → Sized h → wellFormed h ≡ true → piecewise h table ps .refusal ≡ Nothing
-    → piecewise h table ps ≡ record { refusal = Nothing; hasher = absorbed h (bytesOf ps) table (lentMasks ps) }
-pieces-absorbed [] h table size well e = rw (piecewise-nil h table, absorb-none h size well table [])
-pieces-absorbed (p ∷ ps) h table size well e =
-    let a = first-taken h table p ps e in
-    let n = piecewise-next h table p ps a in
+pub pieces-absorbed : (ps : List Piece) (h : Hasher) (t : Tables) → Sized h → wellFormed h ≡ true → piecewise h t ps .refusal ≡ Nothing
+    → piecewise h t ps ≡ record { refusal = Nothing; hasher = absorbed h (bytesOf ps) (lend t (lentMasks ps)) }
+pieces-absorbed [] h t size well e = rw (piecewise-nil h t, absorb-none h size well (lend t []))
+pieces-absorbed (p ∷ ps) h t size well e =
+    let a = first-taken h t p ps e in
+    let n = piecewise-next h t p ps a in
     let l = stream-long (h .pending) (p .bytes) (h .fill) (size .pending-size) (formed h well .fill-le) in
+    let lent = taken-accepted h (p .bytes) (lentWith t p) a in
     n
-    ∙ pieces-absorbed ps _ table (sized-after h (p .bytes) table (p .masks)) (formed-after h (p .bytes) table (p .masks) (size .pending-size) a) (rw n at e)
-    ∙ rw (absorb-cut h (p .bytes) (bytesOf ps) table (p .masks) (lentMasks ps) (λ u. rw l (a .counts u)))
+    ∙ pieces-absorbed ps _ t (sized-after h (p .bytes) (lentWith t p)) (formed-after h (p .bytes) (lentWith t p) (size .pending-size) a) (rw n at e)
+    ∙ rw (absorb-cut h t (p .bytes) (bytesOf ps) (p .masks) (lentMasks ps) (λ u. rw l (lent .counts u)))
 
--- pieces of which only the length can be refused: the hasher is sound, the table good, and there is a mask for each block
-pub record Fitting (h : Hasher) (table : List ℕ) (ps : List Piece) : Type 0 where
+-- pieces of which only the length can be refused: the hasher is sound, the tables good, and there is a mask for each block
+pub record Fitting (h : Hasher) (t : Tables) (ps : List Piece) : Type 0 where
   pub sound : Sound h
-  pub good : tableRefusal (h .flags) table ≡ Nothing
+  pub good : tablesRefusal (h .flags) t ≡ Nothing
   pub counts : usesMasks (h .flags) ≡ true → Counted (h .fill) ps
 
-module _ (h : Hasher) (table : List ℕ) (p : Piece) (ps : List Piece) (r : Fitting h table (p ∷ ps)) (fits : taken h + length (p .bytes) ≤ mostBytes) where
-  pub fitting-taken : Taken h (p .bytes) table (p .masks)
-  fitting-taken = record { well = r .sound .well; fits = fits; counts = λ u. r .counts u .0; good = r .good }
-
-  pub fitting-next : Fitting (absorbed h (p .bytes) table (p .masks)) table ps
-  fitting-next =
-      let d = p .bytes in
-      let ms = p .masks in
-      let long = r .sound .size .pending-size in
-      let f = flags-after h d table ms in
+module _ (h : Hasher) (t : Tables) (p : Piece) (ps : List Piece) (r : Fitting h t (p ∷ ps)) (fits : taken h + length (p .bytes) ≤ mostBytes) where
+  pub fitting-taken : Taken h (p .bytes) (lentWith t p)
+  fitting-taken =
       record {
-        sound = record { size = sized-after h d table ms; well = formed-after h d table ms long fitting-taken };
-        good = rw f (r .good);
-        counts = λ u. rw (fill-after h d table ms long (formed h (r .sound .well) .fill-le)) (r .counts (sym (ap usesMasks f) ∙ u) .1);
+        well = r .sound .well;
+        fits = fits;
+        loan =
+            accepted-loan (h .flags) (lentWith t p) (blocksFilled h (length (p .bytes)))
+            (record { counts = λ u. r .counts u .0; good = r .good });
       }
 
-  pub fitting-taken-after : taken (absorbed h (p .bytes) table (p .masks)) ≡ taken h + length (p .bytes)
-  fitting-taken-after = taken-after h (p .bytes) table (p .masks) (r .sound .size .pending-size) fitting-taken
+  pub fitting-next : Fitting (absorbedBy h t p) t ps
+  fitting-next =
+      let d = p .bytes in
+      let l = lentWith t p in
+      let long = r .sound .size .pending-size in
+      let f = flags-after h d l in
+      record {
+        sound = record { size = sized-after h d l; well = formed-after h d l long fitting-taken };
+        good = rw f (r .good);
+        counts = λ u. rw (fill-after h d l long (formed h (r .sound .well) .fill-le)) (r .counts (sym (ap usesMasks f) ∙ u) .1);
+      }
+
+  pub fitting-taken-after : taken (absorbedBy h t p) ≡ taken h + length (p .bytes)
+  fitting-taken-after = taken-after h (p .bytes) (lentWith t p) (r .sound .size .pending-size) fitting-taken
 
 -- such pieces pass if the message is short enough
-pub pieces-pass : (ps : List Piece) (h : Hasher) (table : List ℕ) → Fitting h table ps → taken h + length (bytesOf ps) ≤ mostBytes
-    → piecewise h table ps .refusal ≡ Nothing
-pieces-pass [] h table r fits = rw (piecewise-nil h table)
-pieces-pass (p ∷ ps) h table r fits =
+pub pieces-pass : (ps : List Piece) (h : Hasher) (t : Tables) → Fitting h t ps → taken h + length (bytesOf ps) ≤ mostBytes
+    → piecewise h t ps .refusal ≡ Nothing
+pieces-pass [] h t r fits = rw (piecewise-nil h t)
+pieces-pass (p ∷ ps) h t r fits =
     let l = length-append (p .bytes) (bytesOf ps) in
     let g : taken h + length (p .bytes) ≤ mostBytes = omega arith in
-    let t = fitting-taken-after h table p ps r g in
-    rw (piecewise-next h table p ps (fitting-taken h table p ps r g)) (pieces-pass ps _ table (fitting-next h table p ps r g) (omega arith))
+    let n = fitting-taken-after h t p ps r g in
+    rw (piecewise-next h t p ps (fitting-taken h t p ps r g)) (pieces-pass ps _ t (fitting-next h t p ps r g) (omega arith))
 
 -- what every update keeps, updates one after the other keep
-pub of-pieces : (P : Hasher → Type 0) → ((h : Hasher) → P h → (bytes table masks : List ℕ) → P (updated h bytes table masks .hasher))
-    → (ps : List Piece) (h : Hasher) (table : List ℕ) → P h → P (piecewise h table ps .hasher)
-of-pieces P keeps [] h table p = rw (piecewise-nil h table) p
-of-pieces P keeps (q ∷ ps) h table p =
-    let u = updated h (q .bytes) table (q .masks) in
-    let k = keeps h p (q .bytes) table (q .masks) in
-    rw (piecewise-cons h table q ps)
-    (of-either (λ (v : Updated). P (v .hasher)) (isNothing (u .refusal)) _ u (of-pieces P keeps ps (u .hasher) table k) k)
+pub of-pieces : (P : Hasher → Type 0) → ((h : Hasher) → P h → (bytes : List ℕ) (l : Loan) → P (updated h bytes l .hasher))
+    → (ps : List Piece) (h : Hasher) (t : Tables) → P h → P (piecewise h t ps .hasher)
+of-pieces P keeps [] h t p = rw (piecewise-nil h t) p
+of-pieces P keeps (q ∷ ps) h t p =
+    let u = updatedBy h t q in
+    let k = keeps h p (q .bytes) (lentWith t q) in
+    rw (piecewise-cons h t q ps)
+    (of-either (λ (v : Updated). P (v .hasher)) (isNothing (u .refusal)) _ u (of-pieces P keeps ps (u .hasher) t k) k)

@@ -8,7 +8,7 @@ use lib.ListN.{getD, take, drop}
 use lib.Seq.{drop-drop, getD-drop}
 use Rattle.step.specs.declared.Regs.{Regs}
 use Rattle.block.specs.Compress.{compressOf}
-use Rattle.stream.specs.Fips.{hashBlocks}
+use Rattle.fips.specs.Fips.{hashBlocks}
 use Rattle.stream.specs.Fold.{allBits}
 use Rattle.claims.specs.Marked.{hashMarked}
 

@@ -6,13 +6,16 @@ use Prim.Native.Nat.{ℕ, _+_, _*_, _/_}
 use native.Mathlib.Omega.{arith}
 use lib.ListN.{length, take, drop, length-append}
 use lib.Seq.{drop-drop, drop-append-le, take-append-seam}
-use Rattle.stream.specs.Flags.{usesMasks}
-use Rattle.stream.specs.Fold.{lookedAt, folded}
+use Rattle.flags.specs.Flags.{usesMasks}
+use Rattle.flags.specs.declared.Flags.{Flags}
+use Rattle.stream.specs.Loan.{Tables, Loan, lend}
+use Rattle.stream.specs.Fold.{folded}
 use Rattle.stream.specs.declared.Chain.{Chain}
-use Rattle.hasher.specs.Hasher.{chainOf, streamOf, zeroed, moved, absorbed}
+use Rattle.hasher.specs.Hasher.{chainOf, zeroed, hasherAt}
 use Rattle.hasher.specs.declared.Hasher.{Hasher}
-use Rattle.hasher.proofs.Moves.{restOf, rest-length, chainAfter, absorbed-is}
-use Rattle.finish.proofs.Padded.{folded-lent}
+use Rattle.update.specs.Update.{streamOf, restOf, absorbed}
+use Rattle.update.proofs.Moves.{rest-length, chainAfter, absorbed-is}
+use Rattle.one_shot.proofs.Padded.{folded-lent}
 
 -- a stream that goes on: its whole blocks, and what is left of it
 module _ (s e : List ℕ) where
@@ -27,24 +30,21 @@ module _ (s e : List ℕ) where
       rw (blocks-join, q) (sym (drop-drop (64 * m) (64 * n) (s ++ e)) ∙ ap (drop (64 * m)) (drop-append-le (64 * n) s e (omega arith)))
 
 -- an update of a hasher that an update gave
-absorbed-moved : (h : Hasher) (c : Chain) (rest e table ns : List ℕ) (n : ℕ)
-    → absorbed (moved h c rest n) e table ns
-    ≡ moved h (folded (h .flags) table c (rest ++ e) (lookedAt (h .flags) ns)) (restOf (rest ++ e)) (n + length (rest ++ e) / 64)
-absorbed-moved h c rest e table ns n =
-    let f : take (length rest) (zeroed rest) ≡ rest = take-append-seam rest _ in
-    let b : h .blocks + n + length (rest ++ e) / 64 ≡ h .blocks + (n + length (rest ++ e) / 64) = omega arith in
-    absorbed-is (moved h c rest n) e table ns ∙ rw (f, b)
+absorbed-at : (f : Flags) (c : Chain) (rest e : List ℕ) (l : Loan)
+    → absorbed (hasherAt f c rest) e l ≡ hasherAt f (folded f l c (rest ++ e)) (restOf (rest ++ e))
+absorbed-at f c rest e l =
+    let s : take (length rest) (zeroed rest) ≡ rest = take-append-seam rest _ in
+    absorbed-is (hasherAt f c rest) e l ∙ rw s
 
-pub absorb-cut : (h : Hasher) (d e table ms ns : List ℕ) → (usesMasks (h .flags) ≡ true → length ms ≡ length (streamOf h d) / 64)
-    → absorbed h (d ++ e) table (ms ++ ns) ≡ absorbed (absorbed h d table ms) e table ns
-absorb-cut h d e table ms ns counts =
+pub absorb-cut : (h : Hasher) (t : Tables) (d e ms ns : List ℕ) → (usesMasks (h .flags) ≡ true → length ms ≡ length (streamOf h d) / 64)
+    → absorbed h (d ++ e) (lend t (ms ++ ns)) ≡ absorbed (absorbed h d (lend t ms)) e (lend t ns)
+absorb-cut h t d e ms ns counts =
     let s = streamOf h d in
-    absorbed-is h (d ++ e) table (ms ++ ns)
+    absorbed-is h (d ++ e) (lend t (ms ++ ns))
     ∙ rw (
       ← append-assoc (take (h .fill) (h .pending)) d e,
-      folded-lent (h .flags) table (chainOf h) s e ms ns counts,
+      folded-lent (h .flags) t (chainOf h) s e ms ns counts,
       rest-join s e,
-      blocks-join s e,
-      absorbed-is h d table ms,
-      absorbed-moved h (chainAfter h d table ms) (restOf s) e table ns (length s / 64),
+      absorbed-is h d (lend t ms),
+      absorbed-at (h .flags) (chainAfter h d (lend t ms)) (restOf s) e (lend t ns),
     )

@@ -8,18 +8,18 @@ use Rattle.word.specs.Choice.{pick}
 use Rattle.step.specs.declared.Regs.{Regs}
 use Rattle.block.specs.Compress.{compressOf}
 use Rattle.detect.specs.Detect.{answerOf}
-use Rattle.stream.specs.Fips.{padded, initial, digestOf}
-use Rattle.stream.specs.Flags.{modeOf}
-use Rattle.stream.specs.Fold.{allBits}
-use Rattle.stream.specs.declared.Flags.{Flags}
+use Rattle.fips.specs.Fips.{padded, initial, digestOf}
+use Rattle.flags.specs.declared.Flags.{Flags}
+use Rattle.stream.specs.Loan.{Tables, Loan, lookedAt}
+use Rattle.stream.specs.Fold.{allBits, modeOf}
 
 -- whether the block that meets the chaining words h is marked: never with detection off
-abbrev pub markedBy : Flags → List ℕ → Regs → List ℕ → ℕ → Bool
-markedBy f table h block mask = f .detect && answerOf (modeOf f) table h block mask .found .mark
+abbrev pub markedBy : Flags → Tables → Regs → List ℕ → ℕ → Bool
+markedBy f t h block mask = f .detect && answerOf (modeOf f) (t .vectors) h block mask .found .mark
 
 -- whether it is compressed twice more: it is marked, and mitigation is on
-abbrev pub againBy : Flags → List ℕ → Regs → List ℕ → ℕ → Bool
-againBy f table h block mask = markedBy f table h block mask && f .mitigate
+abbrev pub againBy : Flags → Tables → Regs → List ℕ → ℕ → Bool
+againBy f t h block mask = markedBy f t h block mask && f .mitigate
 
 -- the chaining words after a block that is compressed once, or twice more with the same block
 abbrev pub compressMarked : Bool → Regs → List ℕ → Regs
@@ -32,34 +32,46 @@ hashMarked again zero h xs masks = h
 hashMarked again (suc n) h xs masks =
     hashMarked again n (compressMarked (again h (take 64 xs) (getD masks 0 allBits)) h (take 64 xs)) (drop 64 xs) (drop 1 masks)
 
--- the blocks of a message, padding included
-abbrev pub blocksIn : List ℕ → ℕ
-blocksIn msg = length (padded msg) / 64
+-- the whole blocks of a stream
+abbrev pub wholeBlocks : List ℕ → ℕ
+wholeBlocks xs = length xs / 64
 
--- the digest by that fold, of a message and the masks of its blocks
-abbrev pub sha1Marked : (Regs → List ℕ → ℕ → Bool) → List ℕ → List ℕ → List ℕ
-sha1Marked again msg masks = digestOf (hashMarked again (blocksIn msg) initial (padded msg) masks)
-
--- the chaining words that block i of the padded message meets
-abbrev pub wordsBefore : Flags → List ℕ → List ℕ → List ℕ → ℕ → Regs
-wordsBefore f table msg masks i = hashMarked (againBy f table) i initial (padded msg) masks
-
--- block i of the padded message
+-- block i of a stream
 abbrev pub blockAt : List ℕ → ℕ → List ℕ
-blockAt msg i = take 64 (drop (64 * i) (padded msg))
+blockAt xs i = take 64 (drop (64 * i) xs)
 
 -- the mask of block i: every bit where none is given
 abbrev pub maskFor : List ℕ → ℕ → ℕ
 maskFor masks i = getD masks i allBits
 
+-- the chaining words that block i of a stream meets, where h are those before the stream
+abbrev pub wordsAt : Flags → Loan → Regs → List ℕ → ℕ → Regs
+wordsAt f l h xs i = hashMarked (againBy f (l .tables)) i h xs (lookedAt f (l .masks))
+
+-- whether block i of the stream is marked
+abbrev pub markedIn : Flags → Loan → Regs → List ℕ → ℕ → Bool
+markedIn f l h xs i = markedBy f (l .tables) (wordsAt f l h xs i) (blockAt xs i) (maskFor (lookedAt f (l .masks)) i)
+
+-- the blocks of a message, padding included
+abbrev pub blocksIn : List ℕ → ℕ
+blocksIn msg = wholeBlocks (padded msg)
+
+-- the digest by the fold in which the blocks that `again` picks are compressed twice more, of a message and the masks of its blocks
+abbrev pub sha1Marked : (Regs → List ℕ → ℕ → Bool) → List ℕ → List ℕ → List ℕ
+sha1Marked again msg masks = digestOf (hashMarked again (blocksIn msg) initial (padded msg) masks)
+
+-- the chaining words that block i of the padded message meets
+abbrev pub wordsBefore : Flags → Loan → List ℕ → ℕ → Regs
+wordsBefore f l msg i = wordsAt f l initial (padded msg) i
+
 -- whether block i of the padded message is marked
-abbrev pub markedAt : Flags → List ℕ → List ℕ → List ℕ → ℕ → Bool
-markedAt f table msg masks i = markedBy f table (wordsBefore f table msg masks i) (blockAt msg i) (maskFor masks i)
+abbrev pub markedAt : Flags → Loan → List ℕ → ℕ → Bool
+markedAt f l msg i = markedIn f l initial (padded msg) i
 
 -- no block of a message is marked, padding included
-abbrev pub NoneMarked : Flags → List ℕ → List ℕ → List ℕ → Type 0
-NoneMarked f table msg masks = (i : ℕ) → i < blocksIn msg → markedAt f table msg masks i ≡ false
+abbrev pub NoneMarked : Flags → Loan → List ℕ → Type 0
+NoneMarked f l msg = (i : ℕ) → i < blocksIn msg → markedAt f l msg i ≡ false
 
 -- one is
-abbrev pub OneMarked : Flags → List ℕ → List ℕ → List ℕ → Type 0
-OneMarked f table msg masks = (i : ℕ) × (i < blocksIn msg) × (markedAt f table msg masks i ≡ true)
+abbrev pub OneMarked : Flags → Loan → List ℕ → Type 0
+OneMarked f l msg = (i : ℕ) × (i < blocksIn msg) × (markedAt f l msg i ≡ true)

@@ -1,18 +1,33 @@
--- Demand 3 along a message: the blocks that a selected sibling meets.
+-- Demand 3 along the blocks of a call and of a message: those that a selected sibling meets.
 use mathlib.Core.List.{List}
 use Prim.Native.Nat.{ℕ, _<_}
-use Rattle.stream.specs.declared.Flags.{Flags}
-use Rattle.claims.specs.Marked.{blocksIn, wordsBefore, blockAt, maskFor}
-use Rattle.claims.specs.Sibling.{Met}
+use Rattle.step.specs.declared.Regs.{Regs}
+use Rattle.fips.specs.Fips.{padded, initial}
+use Rattle.flags.specs.declared.Flags.{Flags}
+use Rattle.stream.specs.Loan.{Loan, lookedAt}
+use Rattle.claims.specs.Marked.{wholeBlocks, blockAt, maskFor, wordsAt, blocksIn, wordsBefore}
+use Rattle.claims.specs.Sibling.{Met, MetIn}
 
--- a sibling that block i's mask selects meets block i
-abbrev pub MetAt : Flags → List ℕ → List ℕ → List ℕ → ℕ → Type 0
-MetAt f table msg masks i = Met (wordsBefore f table msg masks i) (blockAt msg i) table (maskFor masks i)
+-- a sibling that block i's mask selects meets block i of a stream, where h are the chaining words before the stream, in any mode
+abbrev pub MetInAt : Flags → Loan → Regs → List ℕ → ℕ → Type 0
+MetInAt f l h xs i = MetIn (f .reduced) (wordsAt f l h xs i) (blockAt xs i) (l .tables .vectors) (maskFor (lookedAt f (l .masks)) i)
+
+-- that is so for one whole block of the stream
+abbrev pub OneMetIn : Flags → Loan → Regs → List ℕ → Type 0
+OneMetIn f l h xs = (i : ℕ) × (i < wholeBlocks xs) × MetInAt f l h xs i
+
+-- it is so for none
+abbrev pub NoneMetIn : Flags → Loan → Regs → List ℕ → Type 0
+NoneMetIn f l h xs = (i : ℕ) → i < wholeBlocks xs → MetInAt f l h xs i → ⊥
+
+-- a sibling that block i's mask selects meets block i of a message, with reduced-round mode off
+abbrev pub MetAt : Flags → Loan → List ℕ → ℕ → Type 0
+MetAt f l msg i = Met (wordsBefore f l msg i) (blockAt (padded msg) i) (l .tables .vectors) (maskFor (lookedAt f (l .masks)) i)
 
 -- that is so for no block of a message, padding included
-abbrev pub NoneMet : Flags → List ℕ → List ℕ → List ℕ → Type 0
-NoneMet f table msg masks = (i : ℕ) → i < blocksIn msg → MetAt f table msg masks i → ⊥
+abbrev pub NoneMet : Flags → Loan → List ℕ → Type 0
+NoneMet f l msg = (i : ℕ) → i < blocksIn msg → MetAt f l msg i → ⊥
 
 -- it is so for one
-abbrev pub OneMet : Flags → List ℕ → List ℕ → List ℕ → Type 0
-OneMet f table msg masks = (i : ℕ) × (i < blocksIn msg) × MetAt f table msg masks i
+abbrev pub OneMet : Flags → Loan → List ℕ → Type 0
+OneMet f l msg = (i : ℕ) × (i < blocksIn msg) × MetAt f l msg i

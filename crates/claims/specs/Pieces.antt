@@ -6,14 +6,15 @@ use lib.ListN.{length}
 use Rattle.word.specs.Choice.{pick}
 use Rattle.refusal.specs.Refusal.{isNothing}
 use Rattle.refusal.specs.declared.Refusal.the-variants.{Nothing}
-use Rattle.stream.specs.Flags.{defaults}
-use Rattle.stream.specs.Fold.{lookedAt}
-use Rattle.stream.specs.declared.Flags.{Flags}
-use Rattle.hasher.specs.Hasher.{updated, freshOf}
+use Rattle.verdict.specs.Verdict.{digestSize}
+use Rattle.fips.specs.Tail.{tailBlocks}
+use Rattle.flags.specs.declared.Flags.{Flags}
+use Rattle.stream.specs.Loan.{Tables, Loan, lend, lookedAt}
+use Rattle.hasher.specs.Hasher.{freshOf}
 use Rattle.hasher.specs.declared.Hasher.{Hasher}
 use Rattle.hasher.specs.declared.Updated.{Updated}
-use Rattle.verdict.specs.Verdict.{digestSize}
-use Rattle.finish.specs.Finish.{tailBlocks, finishRefusal, finished}
+use Rattle.update.specs.Update.{updated}
+use Rattle.finish.specs.Finish.{finishRefusal, finished}
 use Rattle.finish.specs.declared.Finished.{Finished}
 
 -- a piece of a message, and the masks that are lent with it
@@ -31,33 +32,41 @@ abbrev pub lentMasks : List Piece → List ℕ
 lentMasks [] = []
 lentMasks (p ∷ ps) = p .masks ++ lentMasks ps
 
--- an update for each piece, in order; the first refusal ends them
-unfoldable pub piecewise : Hasher → List ℕ → List Piece → Updated
-piecewise h table [] = record { refusal = Nothing; hasher = h }
-piecewise h table (p ∷ ps) =
-    let u = updated h (p .bytes) table (p .masks) in
-    pick (isNothing (u .refusal)) (piecewise (u .hasher) table ps) u
+-- an update for each piece, in order, with the same tables; the first refusal ends them
+unfoldable pub piecewise : Hasher → Tables → List Piece → Updated
+piecewise h t [] = record { refusal = Nothing; hasher = h }
+piecewise h t (p ∷ ps) =
+    let u = updated h (p .bytes) (lend t (p .masks)) in
+    pick (isNothing (u .refusal)) (piecewise (u .hasher) t ps) u
 
 -- the updates from the start of a message on
-abbrev pub taking : Flags → List ℕ → List Piece → Updated
-taking f table ps = piecewise (freshOf f) table ps
+abbrev pub taking : Flags → Tables → List Piece → Updated
+taking f t ps = piecewise (freshOf f) t ps
 
--- the whole of a message: the updates, and the finish with the masks `last`
-abbrev pub hashed : Flags → List ℕ → List Piece → List ℕ → Finished
-hashed f table ps last = finished (taking f table ps .hasher) table last
+-- the rest of a message on a hasher: the updates, and the finish with the masks `last`
+abbrev pub hashedOn : Hasher → Tables → List Piece → List ℕ → Finished
+hashedOn h t ps last = finished (piecewise h t ps .hasher) (lend t last)
 
--- a message in two calls with the default flags: one update with the masks `first`, and the finish with the masks `last`
-abbrev pub inTwo : List ℕ → List ℕ → List ℕ → List ℕ → Finished
-inTwo bytes table first last = finished (updated (freshOf defaults) bytes table first .hasher) table last
+-- the whole of a message on a new hasher
+abbrev pub hashed : Flags → Tables → List Piece → List ℕ → Finished
+hashed f t ps last = hashedOn (freshOf f) t ps last
+
+-- a message in two calls: one update with the masks `first`, and the finish with the masks `last`
+abbrev pub inTwo : Flags → Tables → List ℕ → List ℕ → List ℕ → Finished
+inTwo f t bytes first last = finished (updated (freshOf f) bytes (lend t first) .hasher) (lend t last)
+
+-- the loan for all blocks of a message: the tables, and the masks of all its calls
+abbrev pub loanOfAll : Tables → List Piece → List ℕ → Loan
+loanOfAll t ps last = lend t (lentMasks ps ++ last)
 
 -- the masks of a message's blocks, padding included: those lent, or none where they are not looked at
 abbrev pub blockMasks : Flags → List Piece → List ℕ → List ℕ
 blockMasks f ps last = lookedAt f (lentMasks ps ++ last)
 
 -- no call is refused, neither an update nor the finish
-pub record NoneRefused (f : Flags) (table : List ℕ) (ps : List Piece) (last : List ℕ) : Type 0 where
-  pub updates : taking f table ps .refusal ≡ Nothing
-  pub finish : finishRefusal (taking f table ps .hasher) digestSize table last ≡ Nothing
+pub record NoneRefused (f : Flags) (t : Tables) (ps : List Piece) (last : List ℕ) : Type 0 where
+  pub updates : taking f t ps .refusal ≡ Nothing
+  pub finish : finishRefusal (taking f t ps .hasher) digestSize (lend t last) ≡ Nothing
 
 -- each piece has a mask for each block that it fills, where so many bytes are pending before the first
 abbrev pub Counted : ℕ → List Piece → Type 0

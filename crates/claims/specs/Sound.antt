@@ -1,9 +1,13 @@
--- The hashers that calls make.
+-- The hashers that calls make, and the tables that they take.
 use mathlib.Core.Path.{_≡_}
 use mathlib.Core.Bool.{true}
 use lib.ListN.{length}
+use Rattle.word.specs.Lists.{AllWords}
+use Rattle.table.specs.Good.{GoodTable}
+use Rattle.stream.specs.Loan.{Tables}
 use Rattle.hasher.specs.Hasher.{wellFormed}
 use Rattle.hasher.specs.declared.Hasher.{Hasher}
+use Rattle.claims.specs.Sibling.{AllBytes}
 
 -- the arrays have the lengths that the type says
 pub record Sized (h : Hasher) : Type 0 where
@@ -14,3 +18,16 @@ pub record Sized (h : Hasher) : Type 0 where
 pub record Sound (h : Hasher) : Type 0 where
   pub size : Sized h
   pub well : wellFormed h ≡ true
+
+-- the words are words and the pending bytes are bytes, as the type says
+pub record Typed (h : Hasher) : Type 0 where
+  pub words-are : AllWords (h .words)
+  pub bytes-are : AllBytes (h .pending)
+
+-- what a table holds are words, as its type says
+abbrev pub TypedTables : Tables → Type 0
+TypedTables t = AllWords (t .vectors)
+
+-- nothing is wrong with the tables
+abbrev pub GoodTables : Tables → Type 0
+GoodTables t = GoodTable (t .vectors)

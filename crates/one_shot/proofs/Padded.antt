@@ -21,22 +21,6 @@ use Rattle.update.specs.Update.{restOf, absorbed}
 use Rattle.update.proofs.Moves.{rest-length, absorbed-is}
 use Rattle.finish.specs.Finish.{lastChain}
 
--- the chain after the finish of a new hasher that took a message is that after the padded message
-pub last-chain-is : (f : Flags) (msg : List ℕ) (l : Loan)
-    → lastChain (absorbed (freshOf f) msg l) (later (length msg / 64) l) ≡ folded f l firstChain (padded msg)
-unfolding lastChain
-last-chain-is f msg l =
-    let e = rest-length msg in
-    let b : folded f l firstChain msg .blocks * 64 + length (restOf msg) ≡ length msg = omega (arith, folded-blocks f l firstChain msg) in
-    let r : take (length (restOf msg)) (zeroed (restOf msg)) ≡ restOf msg = take-append-seam (restOf msg) _ in
-    rw (
-      absorbed-is (freshOf f) msg l,
-      b,
-      tail-is (zeroed (restOf msg)) (length (restOf msg)) (length msg) e,
-      r,
-      folded-cut f l firstChain msg (paddingFor (length msg)),
-    )
-
 -- of the masks of two calls, those of the second, and what the first looks at
 masks-second : (on : Bool) (ms ns : List ℕ) (n : ℕ) → (on ≡ true → length ms ≡ n) → pick on (drop n (ms ++ ns)) [] ≡ pick on ns []
 masks-second true ms ns n h = drop-at ms ns n (h refl)
@@ -61,3 +45,24 @@ folded-lent f t c s e ms ns counts =
     ∙ sym (folded-is f (lend t ns) d (restOf s ++ e))
     in
     folded-cut f (lend t (ms ++ ns)) c s e ∙ second (folded f (lend t (ms ++ ns)) c s) ∙ rw first
+
+-- the last blocks of a new hasher that took a message: what the message left pending, and the padding
+last-chain-after : (f : Flags) (msg : List ℕ) (l k : Loan)
+    → lastChain (absorbed (freshOf f) msg l) k ≡ folded f k (folded f l firstChain msg) (restOf msg ++ paddingFor (length msg))
+unfolding lastChain
+last-chain-after f msg l k =
+    let e = rest-length msg in
+    let b : folded f l firstChain msg .blocks * 64 + length (restOf msg) ≡ length msg = omega (arith, folded-blocks f l firstChain msg) in
+    let r : take (length (restOf msg)) (zeroed (restOf msg)) ≡ restOf msg = take-append-seam (restOf msg) _ in
+    rw (absorbed-is (freshOf f) msg l, b, tail-is (zeroed (restOf msg)) (length (restOf msg)) (length msg) e, r)
+
+-- so the chain after the finish is that after the padded message, with one loan for both calls
+pub last-chain-is : (f : Flags) (msg : List ℕ) (l : Loan)
+    → lastChain (absorbed (freshOf f) msg l) (later (length msg / 64) l) ≡ folded f l firstChain (padded msg)
+last-chain-is f msg l = last-chain-after f msg l (later (length msg / 64) l) ∙ sym (folded-cut f l firstChain msg (paddingFor (length msg)))
+
+-- and with masks for each
+pub last-chain-lent : (f : Flags) (t : Tables) (msg ms ns : List ℕ) → (usesMasks f ≡ true → length ms ≡ length msg / 64)
+    → lastChain (absorbed (freshOf f) msg (lend t ms)) (lend t ns) ≡ folded f (lend t (ms ++ ns)) firstChain (padded msg)
+last-chain-lent f t msg ms ns counts =
+    last-chain-after f msg (lend t ms) (lend t ns) ∙ sym (folded-lent f t firstChain msg (paddingFor (length msg)) ms ns counts)

@@ -11,7 +11,8 @@ use Rattle.io.specs.Counts.{clamped}
 use Rattle.libc.specs.Io.{Moved}
 use Rattle.refusal.specs.Refusal.{isNothing}
 use Rattle.refusal.specs.declared.Refusal.the-variants.{Nothing}
-use Rattle.hasher.specs.Hasher.{updated}
+use Rattle.stream.specs.Loan.{loanOf}
+use Rattle.update.specs.Update.{updated}
 use Rattle.hasher.specs.declared.Hasher.{Hasher}
 use Rattle.hasher.specs.declared.Updated.{Updated}
 use Rattle.program.specs.declared.Intake.{Intake}
@@ -56,7 +57,7 @@ intakeBy u = record { refusal = u .refusal; failed = false; hasher = u .hasher; 
 
 -- one read taken in: no byte is the end or a failure, and bytes go to an update; masks are off, so none is lent
 unfoldable pub intakeWith : Hasher → List ℕ → Read → Intake
-intakeWith h table r = pick (gaveNone r) (messageEnd (r .got) h) (intakeBy (updated h (bytesRead r) table []))
+intakeWith h table r = pick (gaveNone r) (messageEnd (r .got) h) (intakeBy (updated h (bytesRead r) (loanOf table [])))
 
 -- the reads one after the other, as long as there is more to read
 unfoldable pub intakeOf : Hasher → List ℕ → List Read → Intake

@@ -13,7 +13,8 @@ use Rattle.io.specs.Counts.{clamped}
 use Rattle.libc.specs.Io.{Moved}
 use Rattle.refusal.specs.Refusal.{isNothing}
 use Rattle.refusal.specs.declared.Refusal.the-variants.{Nothing}
-use Rattle.hasher.specs.Hasher.{updated}
+use Rattle.stream.specs.Loan.{loanOf}
+use Rattle.update.specs.Update.{updated}
 use Rattle.hasher.specs.declared.Hasher.{Hasher}
 use Rattle.claims.specs.Pieces.{Piece, piecewise}
 use Rattle.claims.proofs.Piecewise.{piecewise-nil, piecewise-cons}
@@ -36,20 +37,20 @@ end-zero e p f =
 
 module _ (table : List ℕ) where
   -- reads whose bytes are taken
-  steps : (h : Hasher) (r : Read) (rs : List Read) → gaveNone r ≡ false → isNothing (updated h (bytesRead r) table [] .refusal) ≡ true
-      → intakeOf h table (r ∷ rs) ≡ intakeOf (updated h (bytesRead r) table [] .hasher) table rs
+  steps : (h : Hasher) (r : Read) (rs : List Read) → gaveNone r ≡ false → isNothing (updated h (bytesRead r) (loanOf table []) .refusal) ≡ true
+      → intakeOf h table (r ∷ rs) ≡ intakeOf (updated h (bytesRead r) (loanOf table []) .hasher) table rs
   steps h r rs e t = intake-cons h table r rs ∙ rw (with-bytes h table r e, t)
 
   stops-at : (h : Hasher) (r : Read) (rs : List Read) → gaveNone r ≡ true → intakeOf h table (r ∷ rs) ≡ messageEnd (r .got) h
   stops-at h r rs e = intake-cons h table r rs ∙ rw (with-end h table r e)
 
-  refused-at : (h : Hasher) (r : Read) (rs : List Read) → gaveNone r ≡ false → isNothing (updated h (bytesRead r) table [] .refusal) ≡ false
-      → intakeOf h table (r ∷ rs) ≡ intakeBy (updated h (bytesRead r) table [])
+  refused-at : (h : Hasher) (r : Read) (rs : List Read) → gaveNone r ≡ false → isNothing (updated h (bytesRead r) (loanOf table []) .refusal) ≡ false
+      → intakeOf h table (r ∷ rs) ≡ intakeBy (updated h (bytesRead r) (loanOf table []))
   refused-at h r rs e t = intake-cons h table r rs ∙ rw (with-bytes h table r e, t)
 
   -- a first update that is refused ends the updates
-  first-passed : (b : Bool) (h : Hasher) (r : Read) (ps : List Piece) → isNothing (updated h (bytesRead r) table [] .refusal) ≡ b
-      → pick b (piecewise (updated h (bytesRead r) table [] .hasher) table ps) (updated h (bytesRead r) table []) .refusal ≡ Nothing → b ≡ true
+  first-passed : (b : Bool) (h : Hasher) (r : Read) (ps : List Piece) → isNothing (updated h (bytesRead r) (loanOf table []) .refusal) ≡ b
+      → pick b (piecewise (updated h (bytesRead r) (loanOf table []) .hasher) table ps) (updated h (bytesRead r) (loanOf table [])) .refusal ≡ Nothing → b ≡ true
   first-passed true h r ps k e = refl
   first-passed false h r ps k e = absurd (false≢true (sym k ∙ ap isNothing e))
 
@@ -61,7 +62,7 @@ module _ (table : List ℕ) where
   stopped (r ∷ rs) last after h g e p =
       let q : Piece = record { bytes = bytesRead r; masks = [] } in
       let t = first-passed _ h r (calls rs) refl (rw (piecewise-cons h table q (calls rs)) at p) in
-      let c : piecewise h table (q ∷ calls rs) ≡ piecewise (updated h (bytesRead r) table [] .hasher) table (calls rs) =
+      let c : piecewise h table (q ∷ calls rs) ≡ piecewise (updated h (bytesRead r) (loanOf table []) .hasher) table (calls rs) =
       piecewise-cons h table q (calls rs) ∙ rw t
       in
       steps h r (rs ++ (last ∷ after)) (g .0) t ∙ rw c (stopped rs last after _ (g .1) e (rw c at p))
@@ -76,8 +77,8 @@ module _ (table : List ℕ) where
     pub passed : Passed h table end
 
   -- one read more, whose bytes are taken, in front of such
-  in-front : (h : Hasher) (r : Read) (rs : List Read) → gaveNone r ≡ false → isNothing (updated h (bytesRead r) table [] .refusal) ≡ true
-      → Stops (updated h (bytesRead r) table [] .hasher) rs → Stops h (r ∷ rs)
+  in-front : (h : Hasher) (r : Read) (rs : List Read) → gaveNone r ≡ false → isNothing (updated h (bytesRead r) (loanOf table []) .refusal) ≡ true
+      → Stops (updated h (bytesRead r) (loanOf table []) .hasher) rs → Stops h (r ∷ rs)
   in-front h r rs e t s =
       let x = s .end in
       record {
@@ -93,7 +94,7 @@ module _ (table : List ℕ) where
       }
 
   -- where there is no more to read and nothing was refused, the reads stop so
-  stop-by : (a b : Bool) (r : Read) (rs : List Read) (h : Hasher) → gaveNone r ≡ a → isNothing (updated h (bytesRead r) table [] .refusal) ≡ b
+  stop-by : (a b : Bool) (r : Read) (rs : List Read) (h : Hasher) → gaveNone r ≡ a → isNothing (updated h (bytesRead r) (loanOf table []) .refusal) ≡ b
       → ((g : Hasher) → intakeOf g table rs .more ≡ false → intakeOf g table rs .refusal ≡ Nothing → Stops g rs)
       → intakeOf h table (r ∷ rs) .more ≡ false → intakeOf h table (r ∷ rs) .refusal ≡ Nothing → Stops h (r ∷ rs)
   stop-by true b r rs h e t next m n =

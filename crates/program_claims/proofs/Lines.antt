@@ -14,7 +14,7 @@ use Rattle.block.specs.Compress.{overSchedule, compressOf}
 use Rattle.verdict.specs.declared.Verdict.the-variants.{Ok}
 use Rattle.fips.specs.Fips.{be64, hashBlocks, digestOf, sha1}
 use Rattle.flags.specs.declared.Flags.{Flags}
-use Rattle.hasher.specs.Hasher.{mostBytes}
+use Rattle.fips.specs.Fips.{mostBytes}
 use Rattle.arguments.specs.Arguments.{settingOf, flagsOf}
 use Rattle.line.specs.Line.{hexOf, verdictText, lineOf}
 use Rattle.line.specs.declared.Saying.the-variants.{Verdict}

@@ -13,6 +13,7 @@ use Rattle.verdict.specs.declared.Verdict.{Verdict}
 use Rattle.flags.specs.declared.Flags.{Flags}
 use Rattle.hasher.specs.Hasher.{freshOf}
 use Rattle.table_file.specs.File.{mostFileBytes, tableOf, fileFault}
+use Rattle.stream.specs.Loan.{loanOf}
 use Rattle.finish.specs.Finish.{finished}
 use Rattle.finish.specs.declared.Outcome.{Outcome}
 use Rattle.finish.specs.declared.Outcome.the-variants.{Done, Refused}
@@ -68,7 +69,7 @@ module _ (f : Flags) (table : List ℕ) (reads : List Read) where
   unfolding replyToMessage intakeReply
   verdict-read p e =
       let h = intakeOf (freshOf f) table reads in
-      let s = said (h .more) (isNothing (h .refusal)) (h .failed) (h .refusal) (finishReply (finished (h .hasher) table [])) e in
+      let s = said (h .more) (isNothing (h .refusal)) (h .failed) (h .refusal) (finishReply (finished (h .hasher) (loanOf table []))) e in
       let x = stop table reads (freshOf f) (s .0) (nothing-is (h .refusal) (s .1)) in
       let k = intake-end-at table (freshOf f) reads (x .end) (x .passed) in
       let done = finish-says _ _ (rw k at (s .3)) in

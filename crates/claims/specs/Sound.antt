@@ -28,6 +28,6 @@ pub record Typed (h : Hasher) : Type 0 where
 abbrev pub TypedTables : Tables → Type 0
 TypedTables t = AllWords (t .vectors)
 
--- nothing is wrong with the tables
-abbrev pub GoodTables : Tables → Type 0
-GoodTables t = GoodTable (t .vectors)
+-- each of the tables is good
+abbrev pub AllGood : Tables → Type 0
+AllGood t = GoodTable (t .vectors)

@@ -2,6 +2,7 @@
 pub mod BenchChecks
 pub mod Demand3
 pub mod OneBlock
+pub mod EveryCall
 pub mod Siblings
 pub mod Control
 pub mod Abc
@@ -15,7 +16,9 @@ pub mod Verdicts
 pub mod Refusals
 pub mod Formed
 pub mod Kept
+pub mod Typed
 pub mod FinishReset
+pub mod Several
 pub mod Settled
 pub mod Unseen
 -- the laws that they lean on
@@ -28,3 +31,4 @@ pub mod Empty
 pub mod Piecewise
 pub mod Whole
 pub mod Along
+pub mod MetAlong

@@ -1,6 +1,6 @@
 -- Demand 2, cutting: a whole message in one call is the updates and the finish with the same flags, and the one-shot form that with the
 -- default flags. Assumes nothing.
-use mathlib.Core.Path.{_≡_, refl, ap, _∙_}
+use mathlib.Core.Path.{_≡_, ap, _∙_}
 use mathlib.Core.Bool.{true}
 use mathlib.Core.List.{List, [], _∷_, _++_, append-nil}
 use Prim.Native.Nat.{ℕ, _/_}

@@ -1,67 +1,64 @@
--- Demand 3 along a message: a block is marked exactly when a selected sibling meets it, and the verdict is ok exactly when that is so for no block. Assumes nothing.
-use mathlib.Core.Path.{_≡_, sym, _∙_, subst}
-use mathlib.Core.Logic.{_↔_, Iff·rfl, Iff·trans, Iff·and}
-use mathlib.Core.Bool.{Bool, true, false, _&&_, true≢false}
+-- Demand 3 along a message with reduced-round mode off: a block is marked exactly when a selected sibling meets it, and the verdict is ok exactly when that is so for no block. Assumes nothing.
+use mathlib.Core.Path.{_≡_}
+use mathlib.Core.Logic.{_↔_, Iff·symm, Iff·trans}
+use mathlib.Core.Bool.{true, false}
 use mathlib.Core.List.{List}
 use Prim.Native.Nat.{ℕ}
-use Rattle.word.specs.Lists.{AllWords, AllBytes}
-use Rattle.word.proofs.Tests.{unless-true}
-use Rattle.verdict.specs.Verdict.{digestSize}
+use Rattle.word.specs.Lists.{AllBytes}
 use Rattle.verdict.specs.declared.Verdict.the-variants.{Ok, Mitigated, Collision}
-use Rattle.table.specs.Good.{GoodTable}
-use Rattle.table.proofs.Good.{accepted}
 use Rattle.detect.specs.Detect.{answerOf}
-use Rattle.stream.specs.Fips.{padded, initial}
-use Rattle.stream.specs.Flags.{modeOf}
-use Rattle.stream.specs.declared.Flags.{Flags}
-use Rattle.hasher.specs.Hasher.{freshOf}
+use Rattle.fips.specs.Fips.{padded, initial}
+use Rattle.flags.specs.declared.Flags.{Flags}
+use Rattle.stream.specs.Loan.{Tables, Loan, lend, lookedAt}
+use Rattle.stream.specs.Fold.{modeOf}
 use Rattle.finish.specs.declared.Outcome.the-variants.{Done}
-use Rattle.finish.proofs.Closing.{finish-closing}
-use Rattle.claims.specs.Pieces.{Piece, bytesOf, taking, hashed, blockMasks, NoneRefused}
-use Rattle.claims.specs.Marked.{againBy, wordsBefore, blockAt, maskFor, markedAt, NoneMarked, OneMarked}
-use Rattle.claims.specs.Message.{MetAt, NoneMet, OneMet}
-use Rattle.claims.proofs.Along.{hash-words, initial-words, block-bytes}
-use Rattle.claims.proofs.Kept.{pieces-flags}
+use Rattle.claims.specs.Sound.{TypedTables, AllGood}
+use Rattle.claims.specs.Pieces.{Piece, bytesOf, hashed, loanOfAll, NoneRefused}
+use Rattle.claims.specs.Marked.{againBy, blockAt, maskFor, wordsBefore, markedAt}
+use Rattle.claims.specs.Message.{MetInAt, OneMetIn, MetAt, NoneMet, OneMet}
+use Rattle.claims.specs.EveryCall.{VerdictBy}
+use Rattle.claims.proofs.Along.{hash-words, initial-words, padded-bytes, block-bytes}
 use Rattle.claims.proofs.Demand3.{marked-exactly}
-use Rattle.claims.proofs.Verdicts.{ok-exactly, mitigated-exactly, collision-exactly}
+use Rattle.claims.proofs.Whole.{last-accepted}
+use Rattle.claims.proofs.MetAlong.{with-detection, looked-good, marked-in-at}
+use Rattle.claims.proofs.EveryCall.{decided-by, message-met}
 
-module _ (f : Flags) (table : List ℕ) (on : f .detect ≡ true) (off : f .reduced ≡ false) (words : AllWords table) where
-  module _ (msg masks : List ℕ) (bytes : AllBytes msg) (good : GoodTable table) where
+module _ (f : Flags) (on : f .detect ≡ true) (off : f .reduced ≡ false) where
+  module _ (l : Loan) (words : TypedTables (l .tables)) (msg : List ℕ) (bytes : AllBytes msg) (good : AllGood (l .tables)) where
     -- Block i is marked exactly when a sibling that its mask selects meets it.
-    pub marked-at-exactly : (i : ℕ) → (markedAt f table msg masks i ≡ true) ↔ MetAt f table msg masks i
+    pub marked-at-exactly : (i : ℕ) → (markedAt f l msg i ≡ true) ↔ MetAt f l msg i
     marked-at-exactly i =
-        let h = wordsBefore f table msg masks i in
-        let mask = maskFor masks i in
-        let mark = answerOf (modeOf f) table h (blockAt msg i) mask .found .mark in
-        let m = marked-exactly h (blockAt msg i) table (hash-words (againBy f table) i initial (padded msg) masks initial-words) (block-bytes msg i bytes) words (modeOf f) mask good off in
-        (λ e. m .0 (subst (λ (b : Bool). (b && mark) ≡ true) on e), λ k. subst (λ (b : Bool). (b && mark) ≡ true) (sym on) (m .1 k))
+        let h = wordsBefore f l msg i in
+        let block = blockAt (padded msg) i in
+        let mask = maskFor (lookedAt f (l .masks)) i in
+        with-detection (f .detect) (answerOf (modeOf f) (l .tables .vectors) h block mask .found .mark) (MetAt f l msg i) on
+        (marked-exactly h block (l .tables .vectors) (hash-words (againBy f (l .tables)) i initial (padded msg) (lookedAt f (l .masks)) initial-words)
+        (block-bytes (padded msg) i (padded-bytes msg bytes)) words (modeOf f) mask good off)
 
-    none-met : NoneMarked f table msg masks ↔ NoneMet f table msg masks
-    none-met = (
-      λ none i l k. true≢false (sym (marked-at-exactly i .1 k) ∙ none i l),
-      λ none i l. unless-true (markedAt f table msg masks i) (λ e. none i l (marked-at-exactly i .0 e)),
+    -- with the mode off what is said of any mode says this
+    met-alike : (i : ℕ) → MetInAt f l initial (padded msg) i ↔ MetAt f l msg i
+    met-alike i = Iff·trans (Iff·symm (marked-in-at f l initial (padded msg) initial-words (padded-bytes msg bytes) words on good i)) (marked-at-exactly i)
+
+    one-alike : ((f .detect ≡ true) × OneMetIn f l initial (padded msg)) ↔ OneMet f l msg
+    one-alike = (
+      λ k. let w = k .1 in (w .0, w .1, met-alike (w .0) .0 (w .2)),
+      λ w. (on, (w .0, w .1, met-alike (w .0) .1 (w .2))),
     )
 
-    one-met : OneMarked f table msg masks ↔ OneMet f table msg masks
-    one-met = (λ w. (w .0, w .1, marked-at-exactly (w .0) .0 (w .2)), λ w. (w .0, w .1, marked-at-exactly (w .0) .1 (w .2)))
-
-  module _ (ps : List Piece) (last : List ℕ) (bytes : AllBytes (bytesOf ps)) (ok : NoneRefused f table ps last) where
-    -- a finish with detection on has looked at the table
-    table-good : GoodTable table
-    table-good =
-        let c = finish-closing (taking f table ps .hasher) digestSize table last (ok .finish) .good in
-        accepted table .0 (rw on at (rw (pieces-flags (freshOf f) table ps) at c))
+  module _ (t : Tables) (words : TypedTables t) (ps : List Piece) (last : List ℕ) (bytes : AllBytes (bytesOf ps)) (ok : NoneRefused f t ps last) where
+    verdict-met : VerdictBy (hashed f t ps last .outcome) (f .mitigate) (OneMet f (loanOfAll t ps last) (bytesOf ps))
+    verdict-met =
+        let good = looked-good f (lend t last) (last-accepted f t ps last ok .good) on in
+        decided-by (one-alike (loanOfAll t ps last) words (bytesOf ps) bytes good) (message-met f t ps last bytes words ok)
 
     -- The verdict is ok exactly when for no block a selected sibling meets it, padding included.
-    pub ok-met : (hashed f table ps last .outcome ≡ Done Ok) ↔ NoneMet f table (bytesOf ps) (blockMasks f ps last)
-    ok-met = Iff·trans (ok-exactly f table ps last ok) (none-met (bytesOf ps) (blockMasks f ps last) bytes table-good)
+    pub ok-met : (hashed f t ps last .outcome ≡ Done Ok) ↔ NoneMet f (loanOfAll t ps last) (bytesOf ps)
+    ok-met = Iff·trans (verdict-met .ok) (λ n i l k. n (i, l, k), λ n w. n (w .0) (w .1) (w .2))
 
     -- It is mitigated exactly when for one block a selected sibling meets it, and mitigation is on.
-    pub mitigated-met : (hashed f table ps last .outcome ≡ Done Mitigated) ↔ (OneMet f table (bytesOf ps) (blockMasks f ps last) × (f .mitigate ≡ true))
-    mitigated-met =
-        Iff·trans (mitigated-exactly f table ps last ok) (Iff·and (one-met (bytesOf ps) (blockMasks f ps last) bytes table-good) Iff·rfl)
+    pub mitigated-met : (hashed f t ps last .outcome ≡ Done Mitigated) ↔ (OneMet f (loanOfAll t ps last) (bytesOf ps) × (f .mitigate ≡ true))
+    mitigated-met = verdict-met .mitigated
 
     -- It is collision exactly when for one block a selected sibling meets it, and mitigation is off.
-    pub collision-met : (hashed f table ps last .outcome ≡ Done Collision) ↔ (OneMet f table (bytesOf ps) (blockMasks f ps last) × (f .mitigate ≡ false))
-    collision-met =
-        Iff·trans (collision-exactly f table ps last ok) (Iff·and (one-met (bytesOf ps) (blockMasks f ps last) bytes table-good) Iff·rfl)
+    pub collision-met : (hashed f t ps last .outcome ≡ Done Collision) ↔ (OneMet f (loanOfAll t ps last) (bytesOf ps) × (f .mitigate ≡ false))
+    collision-met = verdict-met .collision

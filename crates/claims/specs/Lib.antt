@@ -5,6 +5,8 @@ pub mod Marked
 pub mod Refusals
 pub mod Settings
 pub mod Message
+pub mod EveryCall
+pub mod Several
 pub mod Control
 pub mod Settled
 pub mod BenchChecks

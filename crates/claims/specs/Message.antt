@@ -2,7 +2,7 @@
 use mathlib.Core.List.{List}
 use Prim.Native.Nat.{ℕ, _<_}
 use Rattle.step.specs.declared.Regs.{Regs}
-use Rattle.fips.specs.Fips.{padded, initial}
+use Rattle.fips.specs.Fips.{padded}
 use Rattle.flags.specs.declared.Flags.{Flags}
 use Rattle.stream.specs.Loan.{Loan, lookedAt}
 use Rattle.claims.specs.Marked.{wholeBlocks, blockAt, maskFor, wordsAt, blocksIn, wordsBefore}
@@ -15,10 +15,6 @@ MetInAt f l h xs i = MetIn (f .reduced) (wordsAt f l h xs i) (blockAt xs i) (l .
 -- that is so for one whole block of the stream
 abbrev pub OneMetIn : Flags → Loan → Regs → List ℕ → Type 0
 OneMetIn f l h xs = (i : ℕ) × (i < wholeBlocks xs) × MetInAt f l h xs i
-
--- it is so for none
-abbrev pub NoneMetIn : Flags → Loan → Regs → List ℕ → Type 0
-NoneMetIn f l h xs = (i : ℕ) → i < wholeBlocks xs → MetInAt f l h xs i → ⊥
 
 -- a sibling that block i's mask selects meets block i of a message, with reduced-round mode off
 abbrev pub MetAt : Flags → Loan → List ℕ → ℕ → Type 0

@@ -2,12 +2,11 @@
 use mathlib.Core.Path.{_≡_}
 use mathlib.Core.Bool.{true}
 use lib.ListN.{length}
-use Rattle.word.specs.Lists.{AllWords}
+use Rattle.word.specs.Lists.{AllWords, AllBytes}
 use Rattle.table.specs.Good.{GoodTable}
 use Rattle.stream.specs.Loan.{Tables}
 use Rattle.hasher.specs.Hasher.{wellFormed}
 use Rattle.hasher.specs.declared.Hasher.{Hasher}
-use Rattle.claims.specs.Sibling.{AllBytes}
 
 -- the arrays have the lengths that the type says
 pub record Sized (h : Hasher) : Type 0 where
@@ -28,6 +27,6 @@ pub record Typed (h : Hasher) : Type 0 where
 abbrev pub TypedTables : Tables → Type 0
 TypedTables t = AllWords (t .vectors)
 
--- nothing is wrong with the tables
-abbrev pub GoodTables : Tables → Type 0
-GoodTables t = GoodTable (t .vectors)
+-- each of the tables is good
+abbrev pub AllGood : Tables → Type 0
+AllGood t = GoodTable (t .vectors)

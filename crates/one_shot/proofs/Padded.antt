@@ -2,16 +2,16 @@
 use mathlib.Core.Path.{_≡_, refl, sym, ap, _∙_}
 use mathlib.Core.Bool.{Bool, true, false}
 use mathlib.Core.List.{List, [], _++_}
-use Prim.Native.Nat.{ℕ, _+_, _*_, _/_, _%_}
+use Prim.Native.Nat.{ℕ, _+_, _*_, _/_}
 use native.Mathlib.Omega.{arith}
 use lib.ListN.{length, take, drop}
-use lib.Seq.{take-append-seam, drop-nil, drop-at}
+use lib.Seq.{take-append-seam, drop-at}
 use Rattle.word.specs.Choice.{pick}
 use Rattle.fips.specs.Fips.{paddingFor, padded}
 use Rattle.fips.proofs.Padded.{tail-is}
 use Rattle.flags.specs.Flags.{usesMasks}
 use Rattle.flags.specs.declared.Flags.{Flags}
-use Rattle.stream.specs.Loan.{Tables, Loan, lend, later, lookedAt}
+use Rattle.stream.specs.Loan.{Tables, Loan, lend, later}
 use Rattle.stream.specs.Fold.{firstChain, blockOf, chained, folded}
 use Rattle.stream.specs.declared.Chain.{Chain}
 use Rattle.stream.proofs.Folds.{chained-masks}

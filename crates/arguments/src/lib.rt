@@ -1,9 +1,9 @@
 // What the program's arguments ask.
 ghost use mathlib.Core.Path.{_≡_};
 ghost use Rattle.arguments.specs.Arguments.{namesTable, kindOf, nameOf, noSetting, withKind, flagsOf};
-use octets::same_bytes;
 use flags::Flags;
 use flags::Masks;
+use octets::same_bytes;
 
 // What an argument is.
 pub enum ArgumentKind {

@@ -5,8 +5,8 @@ ghost use lib.ListN.{length, take};
 ghost use Rattle.io.specs.Counts.{Counts};
 ghost use Rattle.cases.specs.Lines.{space, newline, oneIf, countOf, foundAt, placeAfter, startOf, fieldOf, restOf, lineAt};
 ghost use Rattle.cases.specs.Numbers.{withDigit, decimalOf, numberAt, wordAt, flagsOf};
-use printing::say;
 use flags::Flags;
+use printing::say;
 
 // Bytes in the longest text, and words in the longest table.
 pub const MOST_TEXT: usize = 262144;

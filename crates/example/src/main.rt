@@ -1,13 +1,13 @@
 // How a program uses the library: a message in two pieces, each block tried with every vector of a lent table. The
 // table is the control record, which marks every block.
 use finish::finish;
+use flags::Flags;
 use hasher::Hasher;
-use update::update;
 use printing::say;
 use printing::say_answer;
 use printing::say_refusal;
 use refusal::is_nothing;
-use flags::Flags;
+use update::update;
 
 fn main() {
     let mut table = [0u32; 82];

@@ -5,9 +5,9 @@ use finish::Finished;
 use finish::Outcome;
 use finish::finish;
 use finish::finish_and_reset;
-use one_shot::one_shot;
 use hasher::Hasher;
 use hasher::reset;
+use one_shot::one_shot;
 use update::update;
 
 // What came of a message, and the hasher for the next.

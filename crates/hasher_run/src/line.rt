@@ -8,11 +8,11 @@ use cases::front_bytes;
 use cases::load;
 use cases::number_at;
 use cases::rest_of;
+use flags::Flags;
 use hasher::Hasher;
 use printing::say;
 use printing::say_answer;
 use printing::say_flags;
-use flags::Flags;
 
 fn answer(way: usize, flags: Flags, line: &[u8], m: &[u8], table: &[u32], masks: &[u32]) {
     let e = end_by(way, Hasher::new(flags), m, line, table, masks);

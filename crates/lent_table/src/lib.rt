@@ -13,8 +13,8 @@ use detect::one_block;
 use layout::block_fits;
 use layout::digest_fits;
 use layout::words_in;
-use table::table_fault;
 use one_shot::one_shot;
+use table::table_fault;
 
 pub fn one_block_lent(
     words: &[u32],

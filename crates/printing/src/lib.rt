@@ -1,12 +1,12 @@
 // What the programs that run the library write. No function here has a result: each only writes to standard output.
 use finish::Outcome;
+use flags::Flags;
+use flags::Masks;
 use hasher::Hasher;
 use libc::STDOUT_FILENO;
 use refusal::Refusal;
 use refusal::number;
 use refusal::place;
-use flags::Flags;
-use flags::Masks;
 use verdict::Verdict;
 
 pub fn say(text: &[u8]) {

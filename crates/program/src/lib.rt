@@ -14,12 +14,12 @@ use finish::Finished;
 use finish::Outcome;
 use finish::finish;
 use hasher::Hasher;
-use update::update;
 use line::Saying;
 use refusal::Refusal;
 use refusal::is_nothing;
 use table_file::MOST_WORDS;
 use table_file::file_fault;
+use update::update;
 
 // One byte more than the longest table file has, so that a longer one is seen.
 pub const MOST_FILE: usize = 4 * MOST_WORDS + 1;

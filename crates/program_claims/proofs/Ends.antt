@@ -13,7 +13,7 @@ use Rattle.io.specs.Counts.{clamped}
 use Rattle.libc.specs.Io.{Moved}
 use Rattle.refusal.specs.Refusal.{isNothing}
 use Rattle.refusal.specs.declared.Refusal.the-variants.{Nothing}
-use Rattle.stream.specs.Loan.{loanOf}
+use Rattle.stream.specs.Loan.{tablesOf, loanOf}
 use Rattle.update.specs.Update.{updated}
 use Rattle.hasher.specs.declared.Hasher.{Hasher}
 use Rattle.claims.specs.Pieces.{Piece, piecewise}
@@ -50,25 +50,25 @@ module _ (table : List ℕ) where
 
   -- a first update that is refused ends the updates
   first-passed : (b : Bool) (h : Hasher) (r : Read) (ps : List Piece) → isNothing (updated h (bytesRead r) (loanOf table []) .refusal) ≡ b
-      → pick b (piecewise (updated h (bytesRead r) (loanOf table []) .hasher) table ps) (updated h (bytesRead r) (loanOf table [])) .refusal ≡ Nothing → b ≡ true
+      → pick b (piecewise (updated h (bytesRead r) (loanOf table []) .hasher) (tablesOf table) ps) (updated h (bytesRead r) (loanOf table [])) .refusal ≡ Nothing → b ≡ true
   first-passed true h r ps k e = refl
   first-passed false h r ps k e = absurd (false≢true (sym k ∙ ap isNothing e))
 
   -- what is taken in where the reads stop so
   stopped : (before : List Read) (last : Read) (after : List Read) (h : Hasher) → AllGave before → gaveNone last ≡ true
-      → piecewise h table (calls before) .refusal ≡ Nothing
-      → intakeOf h table (before ++ (last ∷ after)) ≡ messageEnd (last .got) (piecewise h table (calls before) .hasher)
-  stopped [] last after h g e p = stops-at h last after e ∙ rw (piecewise-nil h table)
+      → piecewise h (tablesOf table) (calls before) .refusal ≡ Nothing
+      → intakeOf h table (before ++ (last ∷ after)) ≡ messageEnd (last .got) (piecewise h (tablesOf table) (calls before) .hasher)
+  stopped [] last after h g e p = stops-at h last after e ∙ rw (piecewise-nil h (tablesOf table))
   stopped (r ∷ rs) last after h g e p =
       let q : Piece = record { bytes = bytesRead r; masks = [] } in
-      let t = first-passed _ h r (calls rs) refl (rw (piecewise-cons h table q (calls rs)) at p) in
-      let c : piecewise h table (q ∷ calls rs) ≡ piecewise (updated h (bytesRead r) (loanOf table []) .hasher) table (calls rs) =
-      piecewise-cons h table q (calls rs) ∙ rw t
+      let t = first-passed _ h r (calls rs) refl (rw (piecewise-cons h (tablesOf table) q (calls rs)) at p) in
+      let c : piecewise h (tablesOf table) (q ∷ calls rs) ≡ piecewise (updated h (bytesRead r) (loanOf table []) .hasher) (tablesOf table) (calls rs) =
+      piecewise-cons h (tablesOf table) q (calls rs) ∙ rw t
       in
       steps h r (rs ++ (last ∷ after)) (g .0) t ∙ rw c (stopped rs last after _ (g .1) e (rw c at p))
 
   pub intake-end-at : (h : Hasher) (reads : List Read) (e : Ends reads) → Passed h table e
-      → intakeOf h table reads ≡ messageEnd (e .last .got) (piecewise h table (calls (e .before)) .hasher)
+      → intakeOf h table reads ≡ messageEnd (e .last .got) (piecewise h (tablesOf table) (calls (e .before)) .hasher)
   intake-end-at h reads e p = ap (intakeOf h table) (e .parts) ∙ stopped (e .before) (e .last) (e .after) h (e .gave) (e .none) p
 
   -- reads that end so, with updates that took all
@@ -90,7 +90,7 @@ module _ (table : List ℕ) where
           gave = (e, x .gave);
           none = x .none;
         };
-        passed = rw (piecewise-cons h table (record { bytes = bytesRead r; masks = [] }) (calls (x .before)), t) (s .passed);
+        passed = rw (piecewise-cons h (tablesOf table) (record { bytes = bytesRead r; masks = [] }) (calls (x .before)), t) (s .passed);
       }
 
   -- where there is no more to read and nothing was refused, the reads stop so
@@ -98,7 +98,7 @@ module _ (table : List ℕ) where
       → ((g : Hasher) → intakeOf g table rs .more ≡ false → intakeOf g table rs .refusal ≡ Nothing → Stops g rs)
       → intakeOf h table (r ∷ rs) .more ≡ false → intakeOf h table (r ∷ rs) .refusal ≡ Nothing → Stops h (r ∷ rs)
   stop-by true b r rs h e t next m n =
-      record { end = record { before = []; last = r; after = rs; parts = refl; gave = tt; none = e }; passed = rw (piecewise-nil h table) }
+      record { end = record { before = []; last = r; after = rs; parts = refl; gave = tt; none = e }; passed = rw (piecewise-nil h (tablesOf table)) }
   stop-by false true r rs h e t next m n = let s = steps h r rs e t in in-front h r rs e t (next _ (rw s at m) (rw s at n))
   stop-by false false r rs h e t next m n = absurd (false≢true (sym t ∙ ap isNothing (rw (refused-at h r rs e t) at n)))
 

@@ -8,13 +8,14 @@ use lib.Dec.{lit≤}
 use lib.ListN.{length}
 use Rattle.word.specs.Word.{rotl, not32, Ch, Maj}
 use Rattle.word.specs.Lists.{listOf}
+use Rattle.stream.specs.Loan.{tablesOf}
 use Rattle.step.specs.Step.{stepWith, fAt, kAt, stepAt, stepsOf}
 use Rattle.block.specs.Schedule.{scheduled}
 use Rattle.block.specs.Compress.{overSchedule, compressOf}
 use Rattle.verdict.specs.declared.Verdict.the-variants.{Ok}
-use Rattle.fips.specs.Fips.{be64, hashBlocks, digestOf, sha1}
+use Rattle.octets.specs.Octets.{bytes64}
+use Rattle.fips.specs.Fips.{mostBytes, hashBlocks, digestOf, sha1}
 use Rattle.flags.specs.declared.Flags.{Flags}
-use Rattle.fips.specs.Fips.{mostBytes}
 use Rattle.arguments.specs.Arguments.{settingOf, flagsOf}
 use Rattle.line.specs.Line.{hexOf, verdictText, lineOf}
 use Rattle.line.specs.declared.Saying.the-variants.{Verdict}
@@ -32,8 +33,8 @@ use Rattle.program_claims.specs.Grounds.{unasked}
 use Rattle.program_claims.proofs.Verdicts.{end-says, reply-with}
 
 undetected : (f : Flags) (rs : List Read) → f .detect ≡ false → length (messageOf rs) ≤ mostBytes
-    → finishReply (hashed f [] (calls rs) []) ≡ record { saying = Verdict Ok; digest = sha1 (messageOf rs) }
-undetected f rs off short = ap finishReply (every-message f [] (calls rs) [] short off)
+    → finishReply (hashed f (tablesOf []) (calls rs) []) ≡ record { saying = Verdict Ok; digest = sha1 (messageOf rs) }
+undetected f rs off short = ap finishReply (every-message f (tablesOf []) (calls rs) [] short off)
 
 -- With no bad argument and no table, a message that is read to its end has the verdict ok and FIPS 180-4's digest, in whatever pieces it comes.
 pub no-table : (args : List Argument) (files : ℕ → File) (reads : List Read) → settingOf (kindsRead args) .bad ≡ false → settingOf (kindsRead args) .table ≡ false
@@ -42,7 +43,7 @@ pub no-table : (args : List Argument) (files : ℕ → File) (reads : List Read)
 no-table args files reads good off e unfailed short =
     let f = flagsOf (settingOf (kindsRead args)) in
     reply-with args files reads good (unasked off)
-    ∙ end-says f [] reads e (none-refused-off f [] (calls (e .before)) [] short off .updates) unfailed
+    ∙ end-says f [] reads e (none-refused-off f (tablesOf []) (calls (e .before)) [] short off .updates) unfailed
     ∙ ap some (undetected f (e .before) off short)
 
 -- the line of a reply
@@ -57,7 +58,7 @@ abbrev pub helloLine : List ℕ
 helloLine = 0x6F ∷ 0x6B ∷ 0x20 ∷ 0x32 ∷ 0x61 ∷ 0x61 ∷ 0x65 ∷ 0x36 ∷ 0x63 ∷ 0x33 ∷ 0x35 ∷ 0x63 ∷ 0x39 ∷ 0x34 ∷ 0x66 ∷ 0x63 ∷ 0x66 ∷ 0x62 ∷ 0x34 ∷ 0x31 ∷ 0x35 ∷ 0x64 ∷ 0x62 ∷ 0x65 ∷ 0x39 ∷ 0x35 ∷ 0x66 ∷ 0x34 ∷ 0x30 ∷ 0x38 ∷ 0x62 ∷ 0x39 ∷ 0x63 ∷ 0x65 ∷ 0x39 ∷ 0x31 ∷ 0x65 ∷ 0x65 ∷ 0x38 ∷ 0x34 ∷ 0x36 ∷ 0x65 ∷ 0x64 ∷ 0x0A ∷ []
 
 digest-line : lineFor (record { saying = Verdict Ok; digest = sha1 hello }) ≡ helloLine
-unfolding verdictText hexOf sha1 be64 hashBlocks digestOf compressOf overSchedule scheduled listOf stepsOf stepAt stepWith fAt kAt rotl not32 Ch Maj
+unfolding verdictText hexOf sha1 bytes64 hashBlocks digestOf compressOf overSchedule scheduled listOf stepsOf stepAt stepWith fAt kAt rotl not32 Ch Maj
 digest-line = refl
 
 -- With no argument the message `hello world`, in whatever pieces it comes, has the line that 01 gives.

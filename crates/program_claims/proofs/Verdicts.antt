@@ -13,7 +13,7 @@ use Rattle.verdict.specs.declared.Verdict.{Verdict}
 use Rattle.flags.specs.declared.Flags.{Flags}
 use Rattle.hasher.specs.Hasher.{freshOf}
 use Rattle.table_file.specs.File.{mostFileBytes, tableOf, fileFault}
-use Rattle.stream.specs.Loan.{loanOf}
+use Rattle.stream.specs.Loan.{tablesOf, loanOf}
 use Rattle.finish.specs.Finish.{finished}
 use Rattle.finish.specs.declared.Outcome.{Outcome}
 use Rattle.finish.specs.declared.Outcome.the-variants.{Done, Refused}
@@ -83,7 +83,7 @@ module _ (f : Flags) (table : List ℕ) (reads : List Read) where
 
   -- A message that is read to its end has what the finish says, verdict or refusal.
   pub end-says : (e : Ends reads) → Passed (freshOf f) table e → below0 (e .last .got) ≡ false
-      → replyToMessage f table reads ≡ some (finishReply (hashed f table (calls (e .before)) []))
+      → replyToMessage f table reads ≡ some (finishReply (hashed f (tablesOf table) (calls (e .before)) []))
   unfolding replyToMessage intakeReply
   end-says e p u = rw (intake-end-at table (freshOf f) reads e p, u)
 

@@ -3,6 +3,7 @@ use mathlib.Core.Path.{_≡_}
 use mathlib.Core.Bool.{true, false}
 use mathlib.Core.List.{List, [], _∷_, _++_, map}
 use Prim.Native.Nat.{ℕ}
+use Rattle.stream.specs.Loan.{tablesOf}
 use Rattle.refusal.specs.declared.Refusal.the-variants.{Nothing}
 use Rattle.hasher.specs.declared.Hasher.{Hasher}
 use Rattle.claims.specs.Pieces.{Piece, bytesOf, piecewise}
@@ -32,4 +33,4 @@ pub record Ends (reads : List Read) : Type 0 where
 
 -- the updates took all those bytes
 abbrev pub Passed : Hasher → List ℕ → {reads : List Read} → Ends reads → Type 0
-Passed h table e = piecewise h table (calls (e .before)) .refusal ≡ Nothing
+Passed h table e = piecewise h (tablesOf table) (calls (e .before)) .refusal ≡ Nothing

@@ -4,6 +4,7 @@ use mathlib.Core.Bool.{true, false}
 use mathlib.Core.List.{List, [], _++_}
 use Prim.Native.Nat.{ℕ, _+_}
 use lib.IntN.{pos}
+use Rattle.stream.specs.Loan.{tablesOf}
 use Rattle.refusal.specs.Refusal.{isNothing}
 use Rattle.verdict.specs.declared.Verdict.{Verdict}
 use Rattle.flags.specs.declared.Flags.{Flags}
@@ -29,8 +30,8 @@ pub record ReadToEnd (f : Flags) (table : List ℕ) (reads : List Read) (v : Ver
   pub end : Ends reads
   pub ended : end .last .got ≡ pos 0
   pub passed : Passed (freshOf f) table end
-  pub verdict : hashed f table (calls (end .before)) [] .outcome ≡ Done v
-  pub digested : hashed f table (calls (end .before)) [] .digest ≡ digest
+  pub verdict : hashed f (tablesOf table) (calls (end .before)) [] .outcome ≡ Done v
+  pub digested : hashed f (tablesOf table) (calls (end .before)) [] .digest ≡ digest
 
 -- the table that the arguments ask: none, or that of a file that was read and has nothing wrong
 pub data TableOf (s : Setting) (c : Contents) : List ℕ → Type 0 where

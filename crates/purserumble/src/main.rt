@@ -11,6 +11,7 @@ ghost use Rattle.program.specs.Reply.{replyToMessage, Replies, RepliesWithFile,
 use arguments::ArgumentKind;
 use arguments::file_name;
 use arguments::flags_of;
+use flags::Flags;
 use hasher::Hasher;
 use libc::PATH_MAX;
 use libc::STDIN_FILENO;
@@ -32,7 +33,6 @@ use program::no_intake;
 use program::plan_of;
 use program::table_check;
 use program::without_digest;
-use flags::Flags;
 use table_file::file_words;
 
 // Bytes in `table=`.

@@ -8,12 +8,11 @@ use cases::rest_of;
 use finish::Outcome;
 use finish::finish;
 use finish::finish_and_reset;
-use one_shot::one_shot;
 use hasher::Hasher;
 use hasher::Updated;
 use hasher::reset;
-use update::update;
 use in_place::through;
+use one_shot::one_shot;
 use printing::say;
 use printing::say_answer;
 use printing::say_hasher;
@@ -22,6 +21,7 @@ use printing::say_outcome;
 use printing::say_refusal;
 use refusal::Refusal;
 use refusal::is_nothing;
+use update::update;
 
 fn head(line: &[u8]) {
     say(rest_of(line, 14));

@@ -1,10 +1,10 @@
 // Whether two hashers are the same in every field.
+use flags::Flags;
+use flags::Masks;
 use hasher::Hasher;
 use octets::same_bytes;
 use step::regs_of;
 use step::same_regs;
-use flags::Flags;
-use flags::Masks;
 
 fn same_pending(a: &[u8; 64], b: &[u8; 64]) -> bool {
     same_bytes(a, b)

@@ -19,9 +19,9 @@ use crate::session::updated;
 use crate::session::was_reset;
 use cases::line_at;
 use cases::next_line;
+use flags::Flags;
 use hasher::Hasher;
 use refusal::is_nothing;
-use flags::Flags;
 use table::table_fault;
 
 // The table lent after a line.

@@ -11,12 +11,12 @@ use cases::flags_of;
 use finish::Outcome;
 use finish::finish;
 use finish::finish_and_reset;
+use flags::Flags;
 use hasher::Hasher;
 use hasher::Updated;
 use hasher::reset;
-use update::update;
 use refusal::is_nothing;
-use flags::Flags;
+use update::update;
 use verdict::Verdict;
 
 pub struct Took {

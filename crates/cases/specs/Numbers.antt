@@ -1,6 +1,6 @@
 -- What the fields of a case are read as.
 use mathlib.Core.List.{List, [], _∷_}
-use Prim.Native.Nat.{ℕ, _+_, _*_, _/_, _%_, _^_}
+use Prim.Native.Nat.{ℕ, _+_, _*_, _/_, _%_}
 use lib.Dec.{eqb}
 use Rattle.flags.specs.declared.Flags.{Flags}
 use Rattle.flags.specs.Flags.{masksOf}

@@ -10,7 +10,8 @@ use Rattle.stream.specs.Fold.{folded}
 use Rattle.stream.specs.declared.Chain.{Chain}
 use Rattle.stream.proofs.Folded.{folded-is}
 use Rattle.hasher.specs.declared.Hasher.{Hasher}
-use Rattle.update.specs.Update.{updateRefusal, absorbed, updated}
+use Rattle.absorb.specs.Absorb.{absorbed}
+use Rattle.update.specs.Update.{updateRefusal, updated}
 use Rattle.update.proofs.Taken.{Taken, refusal-is, update-taken}
 use Rattle.update.proofs.Absorbed.{words-after, pending-after}
 use Rattle.claims.specs.Sound.{Sized}

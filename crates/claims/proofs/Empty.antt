@@ -13,8 +13,8 @@ use Rattle.hasher.specs.declared.Hasher.{Hasher}
 use Rattle.hasher.proofs.Zeros.{zero-all}
 use Rattle.hasher.proofs.Formed.{formed}
 use Rattle.hasher.proofs.Words.{five-is}
-use Rattle.update.specs.Update.{absorbed}
-use Rattle.update.proofs.Moves.{absorbed-is}
+use Rattle.absorb.specs.Absorb.{absorbed}
+use Rattle.absorb.proofs.Moves.{absorbed-is}
 use Rattle.claims.specs.Sound.{Sized}
 
 -- the pending bytes with the zeros behind them

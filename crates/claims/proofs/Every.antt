@@ -24,7 +24,7 @@ use Rattle.finish.specs.declared.Finished.{Finished}
 use Rattle.finish.specs.declared.Outcome.{Outcome}
 use Rattle.finish.specs.declared.Outcome.the-variants.{Done}
 use Rattle.finish.proofs.Finishing.{finishing-finish}
-use Rattle.claims.specs.Sound.{AllGood}
+use Rattle.claims.specs.Sound.{TablesGood}
 use Rattle.claims.specs.Pieces.{Piece, bytesOf, taking, hashed, NoneRefused, InTurn}
 use Rattle.claims.proofs.Kept.{finish-keeps, fresh-sound, pieces-flags, pieces-sound}
 use Rattle.claims.proofs.Piecewise.{Fitting, pieces-pass}
@@ -32,7 +32,7 @@ use Rattle.claims.proofs.Whole.{fill-is}
 use Rattle.claims.proofs.Fips.{fips-undetected}
 use Rattle.claims.proofs.Verdicts.{ok-exactly}
 
-tables-good : (f : Flags) (t : Tables) → AllGood t → tablesRefusal f t ≡ Nothing
+tables-good : (f : Flags) (t : Tables) → TablesGood t → tablesRefusal f t ≡ Nothing
 tables-good f t good = of-either (λ (r : Refusal). r ≡ Nothing) (f .detect) _ Nothing (accepted (t .vectors) .1 good) refl
 
 unused : (f : Flags) → f .masks ≡ All → usesMasks f ≡ true → ⊥
@@ -67,11 +67,11 @@ module _ (f : Flags) (t : Tables) (ps : List Piece) (last : List ℕ) (short : l
   none-refused-off off = none-refused (rw off) (λ u. absurd (false≢true (rw off at u)))
 
   -- With detection on none is, with good tables and each block's mask in its turn.
-  pub none-refused-on : AllGood t → InTurn ps last → NoneRefused f t ps last
+  pub none-refused-on : TablesGood t → InTurn ps last → NoneRefused f t ps last
   none-refused-on good turn = none-refused (tables-good f t good) (λ u. turn)
 
   -- With masks off none is, with good tables.
-  pub none-refused-all : f .masks ≡ All → AllGood t → NoneRefused f t ps last
+  pub none-refused-all : f .masks ≡ All → TablesGood t → NoneRefused f t ps last
   none-refused-all off good = none-refused (tables-good f t good) (λ u. absurd (unused f off u))
 
   -- With detection off the verdict is ok and the digest FIPS 180-4's, for every message of at most 2^61-1 bytes under every cut, whatever is lent.

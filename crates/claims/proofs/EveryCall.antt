@@ -23,8 +23,9 @@ use Rattle.hasher.specs.Hasher.{taken, chainOf}
 use Rattle.hasher.specs.declared.Hasher.{Hasher}
 use Rattle.hasher.specs.declared.Updated.{Updated}
 use Rattle.hasher.proofs.Formed.{formed}
-use Rattle.update.specs.Update.{streamOf, updated}
-use Rattle.update.proofs.Moves.{absorbed-is}
+use Rattle.absorb.specs.Absorb.{streamOf}
+use Rattle.update.specs.Update.{updated}
+use Rattle.absorb.proofs.Moves.{absorbed-is}
 use Rattle.update.proofs.Taken.{update-taken, taken-update}
 use Rattle.finish.specs.Finish.{lastChain, finishRefusal, finished, finishedReset}
 use Rattle.finish.specs.declared.Outcome.{Outcome}

@@ -10,8 +10,9 @@ use Rattle.flags.specs.declared.Flags.{Flags}
 use Rattle.stream.specs.Loan.{Tables, Loan}
 use Rattle.hasher.specs.Hasher.{allZero, wellFormed, chainOf, freshOf, resetOf}
 use Rattle.hasher.specs.declared.Hasher.{Hasher}
-use Rattle.update.specs.Update.{streamOf, updated}
-use Rattle.update.proofs.Moves.{absorbed-is}
+use Rattle.absorb.specs.Absorb.{streamOf}
+use Rattle.update.specs.Update.{updated}
+use Rattle.absorb.proofs.Moves.{absorbed-is}
 use Rattle.update.proofs.Absorbed.{flags-after, formed-after}
 use Rattle.finish.specs.Finish.{finishRefusal, finished, finishedReset}
 use Rattle.claims.specs.Sound.{Sound}

@@ -15,7 +15,7 @@ use Rattle.flags.specs.declared.Flags.{Flags}
 use Rattle.stream.specs.Loan.{Loan, lookedAt, tablesRefusal}
 use Rattle.stream.specs.Fold.{modeOf, folded}
 use Rattle.stream.specs.declared.Chain.{Chain}
-use Rattle.claims.specs.Sound.{TypedTables, AllGood}
+use Rattle.claims.specs.Sound.{TypedTables, TablesGood}
 use Rattle.claims.specs.Marked.{againBy, wholeBlocks, blockAt, maskFor, wordsAt, markedIn}
 use Rattle.claims.specs.Message.{MetInAt, OneMetIn}
 use Rattle.claims.proofs.Below.{anyBelow, some-below}
@@ -28,12 +28,12 @@ pub with-detection : (on mark : Bool) (P : Type 0) → on ≡ true → (mark ≡
 with-detection on mark P e m = (λ k. m .0 (both-true on mark k .1), λ p. rw e (m .1 p))
 
 -- tables that are looked at and not refused are good
-pub looked-good : (f : Flags) (l : Loan) → tablesRefusal f (l .tables) ≡ Nothing → f .detect ≡ true → AllGood (l .tables)
+pub looked-good : (f : Flags) (l : Loan) → tablesRefusal f (l .tables) ≡ Nothing → f .detect ≡ true → TablesGood (l .tables)
 looked-good f l fine on = accepted (l .tables .vectors) .0 (rw on at fine)
 
 module _ (f : Flags) (l : Loan) (h : Regs) (xs : List ℕ) (hw : Words h) (bytes : AllBytes xs) (words : TypedTables (l .tables)) where
   -- In any mode block i is marked exactly when a sibling that its mask selects meets it.
-  pub marked-in-at : f .detect ≡ true → AllGood (l .tables) → (i : ℕ) → (markedIn f l h xs i ≡ true) ↔ MetInAt f l h xs i
+  pub marked-in-at : f .detect ≡ true → TablesGood (l .tables) → (i : ℕ) → (markedIn f l h xs i ≡ true) ↔ MetInAt f l h xs i
   marked-in-at on good i =
       let w = wordsAt f l h xs i in
       let mask = maskFor (lookedAt f (l .masks)) i in

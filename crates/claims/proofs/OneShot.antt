@@ -10,7 +10,7 @@ use Rattle.refusal.specs.declared.Refusal.the-variants.{Nothing}
 use Rattle.flags.specs.Flags.{usesMasks, defaults}
 use Rattle.flags.specs.declared.Flags.{Flags}
 use Rattle.stream.specs.Loan.{Tables, lend}
-use Rattle.stream.proofs.Loans.{Accepted, loan-accepted, accepted-loan}
+use Rattle.stream.proofs.Loans.{AcceptedLoan, loan-accepted, accepted-loan}
 use Rattle.hasher.specs.Hasher.{freshOf}
 use Rattle.update.specs.Update.{updated}
 use Rattle.one_shot.specs.Whole.{blocksOf, wholeRefusal, wholeOf, digested}
@@ -62,7 +62,7 @@ whole-two f t bytes first last m e =
     let b = append-nil bytes in
     let c = append-nil first in
     let n = ap length b in
-    let k : Accepted f (lend t (first ++ last)) (blocksOf (length bytes)) =
+    let k : AcceptedLoan f (lend t (first ++ last)) (blocksOf (length bytes)) =
     loan-accepted f (lend t (first ++ last)) (blocksOf (length bytes)) (refusal-whole f (length bytes) (lend t (first ++ last)) e .loan)
     in
     let turn : usesMasks f ≡ true → InTurn (p ∷ []) last =

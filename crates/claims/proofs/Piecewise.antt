@@ -12,14 +12,15 @@ use Rattle.word.proofs.Tests.{of-either}
 use Rattle.fips.specs.Fips.{mostBytes}
 use Rattle.flags.specs.Flags.{usesMasks}
 use Rattle.stream.specs.Loan.{Tables, Loan, lend, tablesRefusal}
-use Rattle.stream.proofs.Loans.{Accepted, loan-accepted, accepted-loan}
+use Rattle.stream.proofs.Loans.{AcceptedLoan, loan-accepted, accepted-loan}
 use Rattle.refusal.proofs.Passed.{of-refusal}
 use Rattle.hasher.specs.Hasher.{wellFormed, taken}
 use Rattle.hasher.specs.declared.Hasher.{Hasher}
 use Rattle.hasher.specs.declared.Updated.{Updated}
 use Rattle.hasher.proofs.Formed.{formed}
-use Rattle.update.specs.Update.{blocksFilled, absorbed, updated}
-use Rattle.update.proofs.Moves.{stream-long}
+use Rattle.absorb.specs.Absorb.{absorbed}
+use Rattle.update.specs.Update.{blocksFilled, updated}
+use Rattle.absorb.proofs.Moves.{stream-long}
 use Rattle.update.proofs.Taken.{Taken, update-taken, taken-update}
 use Rattle.update.proofs.Absorbed.{flags-after, fill-after, taken-after, formed-after}
 use Rattle.claims.specs.Sound.{Sized, Sound}
@@ -60,7 +61,7 @@ module _ (h : Hasher) (t : Tables) (p : Piece) (ps : List Piece) where
   piecewise-next a = rw (piecewise-cons h t p ps, taken-update h (p .bytes) (lentWith t p) a)
 
 -- what an update that is not refused is lent
-pub taken-accepted : (h : Hasher) (bytes : List ℕ) (l : Loan) → Taken h bytes l → Accepted (h .flags) l (blocksFilled h (length bytes))
+pub taken-accepted : (h : Hasher) (bytes : List ℕ) (l : Loan) → Taken h bytes l → AcceptedLoan (h .flags) l (blocksFilled h (length bytes))
 taken-accepted h bytes l a = loan-accepted (h .flags) l (blocksFilled h (length bytes)) (a .loan)
 
 -- two updates that are not refused, as one

@@ -71,8 +71,8 @@ use Rattle.hasher.proofs.well_formed.Kinds as well-formed-kinds
 use Rattle.hasher.proofs.well_formed.Reads as well-formed-contract
 use Rattle.update.proofs.update.Kinds as update-kinds
 use Rattle.update.proofs.update.Reads as update-contract
-use Rattle.update.proofs.absorb.Kinds as absorb-kinds
-use Rattle.update.proofs.absorb.Reads as absorb-contract
+use Rattle.absorb.proofs.absorb.Kinds as absorb-kinds
+use Rattle.absorb.proofs.absorb.Reads as absorb-contract
 use Rattle.finish.proofs.finish.Kinds as finish-kinds
 use Rattle.finish.proofs.finish.Reads as finish-contract
 use Rattle.finish.proofs.last_chain.Kinds as last-chain-kinds

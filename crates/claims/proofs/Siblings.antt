@@ -12,7 +12,7 @@ use Rattle.flags.specs.declared.Flags.{Flags}
 use Rattle.stream.specs.Loan.{Tables, Loan, lend, lookedAt}
 use Rattle.stream.specs.Fold.{modeOf}
 use Rattle.finish.specs.declared.Outcome.the-variants.{Done}
-use Rattle.claims.specs.Sound.{TypedTables, AllGood}
+use Rattle.claims.specs.Sound.{TypedTables, TablesGood}
 use Rattle.claims.specs.Pieces.{Piece, bytesOf, hashed, loanOfAll, NoneRefused}
 use Rattle.claims.specs.Marked.{againBy, blockAt, maskFor, wordsBefore, markedAt}
 use Rattle.claims.specs.Message.{MetInAt, OneMetIn, MetAt, NoneMet, OneMet}
@@ -24,7 +24,7 @@ use Rattle.claims.proofs.MetAlong.{with-detection, looked-good, marked-
 use Rattle.claims.proofs.EveryCall.{decided-by, message-met}
 
 module _ (f : Flags) (on : f .detect ≡ true) (off : f .reduced ≡ false) where
-  module _ (l : Loan) (words : TypedTables (l .tables)) (msg : List ℕ) (bytes : AllBytes msg) (good : AllGood (l .tables)) where
+  module _ (l : Loan) (words : TypedTables (l .tables)) (msg : List ℕ) (bytes : AllBytes msg) (good : TablesGood (l .tables)) where
     -- Block i is marked exactly when a sibling that its mask selects meets it.
     pub marked-at-exactly : (i : ℕ) → (markedAt f l msg i ≡ true) ↔ MetAt f l msg i
     marked-at-exactly i =

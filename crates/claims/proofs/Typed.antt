@@ -16,8 +16,9 @@ use Rattle.stream.specs.Loan.{Loan, lookedAt}
 use Rattle.hasher.specs.Hasher.{wellFormed, chainOf, freshOf, resetOf}
 use Rattle.hasher.specs.declared.Hasher.{Hasher}
 use Rattle.hasher.specs.declared.Updated.{Updated}
-use Rattle.update.specs.Update.{streamOf, restOf, updated}
-use Rattle.update.proofs.Moves.{chainAfter, absorbed-is}
+use Rattle.absorb.specs.Absorb.{streamOf, restOf}
+use Rattle.update.specs.Update.{updated}
+use Rattle.absorb.proofs.Moves.{chainAfter, absorbed-is}
 use Rattle.finish.specs.Finish.{finishRefusal, finishedReset}
 use Rattle.claims.specs.Sound.{Typed}
 use Rattle.claims.specs.Marked.{againBy, wholeBlocks}

@@ -19,7 +19,8 @@ use Rattle.stream.specs.Fold.{allBits, firstChain, blockOf, chained, folded}
 use Rattle.stream.specs.declared.Chain.{Chain}
 use Rattle.hasher.specs.Hasher.{wellFormed, taken, chainOf, freshOf}
 use Rattle.hasher.specs.declared.Hasher.{Hasher}
-use Rattle.update.specs.Update.{blocksFilled, streamOf, updateRefusal, advanced, absorbed, updated}
+use Rattle.absorb.specs.Absorb.{streamOf, advanced, absorbed}
+use Rattle.update.specs.Update.{blocksFilled, updateRefusal, updated}
 use Rattle.finish.specs.Finish.{finishRefusal, lastChain, finished, finishedReset, writtenOut}
 use Rattle.one_shot.specs.Whole.{blocksOf, wholeRefusal, wholeChain, wholeOf}
 use Rattle.claims.specs.Settings.{masksOff, masksOn, everyBit, everyBlock, everyLast}

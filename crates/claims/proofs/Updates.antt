@@ -13,8 +13,8 @@ use Rattle.stream.specs.Fold.{folded}
 use Rattle.stream.specs.declared.Chain.{Chain}
 use Rattle.hasher.specs.Hasher.{chainOf, zeroed, hasherAt}
 use Rattle.hasher.specs.declared.Hasher.{Hasher}
-use Rattle.update.specs.Update.{streamOf, restOf, absorbed}
-use Rattle.update.proofs.Moves.{rest-length, chainAfter, absorbed-is}
+use Rattle.absorb.specs.Absorb.{streamOf, restOf, absorbed}
+use Rattle.absorb.proofs.Moves.{rest-length, chainAfter, absorbed-is}
 use Rattle.one_shot.proofs.Padded.{folded-lent}
 
 -- a stream that goes on: its whole blocks, and what is left of it

@@ -13,9 +13,9 @@ use Rattle.flags.specs.Flags.{usesMasks}
 use Rattle.flags.specs.declared.Flags.{Flags}
 use Rattle.stream.specs.Loan.{Tables, lend}
 use Rattle.stream.specs.Fold.{firstChain}
-use Rattle.stream.proofs.Loans.{Accepted, loan-accepted}
+use Rattle.stream.proofs.Loans.{AcceptedLoan, loan-accepted}
 use Rattle.hasher.specs.Hasher.{freshOf}
-use Rattle.update.specs.Update.{absorbed}
+use Rattle.absorb.specs.Absorb.{absorbed}
 use Rattle.update.proofs.Absorbed.{fill-after}
 use Rattle.finish.specs.Finish.{lastChain, finished}
 use Rattle.finish.specs.declared.Outcome.the-variants.{Done}
@@ -54,7 +54,7 @@ module _ (f : Flags) (t : Tables) where
 
   module _ (ps : List Piece) (last : List ℕ) (ok : NoneRefused f t ps last) where
     -- what the finish is lent
-    pub last-accepted : Accepted f (lend t last) (tailBlocks (length (bytesOf ps) % 64))
+    pub last-accepted : AcceptedLoan f (lend t last) (tailBlocks (length (bytesOf ps) % 64))
     last-accepted =
         let a = finish-finishing (taking f t ps .hasher) digestSize (lend t last) (ok .finish) .loan in
         loan-accepted f (lend t last) (tailBlocks (length (bytesOf ps) % 64)) (rw (pieces-flags (freshOf f) t ps, fill-is ps (ok .updates)) at a)

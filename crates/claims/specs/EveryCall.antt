@@ -10,7 +10,7 @@ use Rattle.fips.specs.Fips.{paddingFor}
 use Rattle.stream.specs.Loan.{Loan}
 use Rattle.hasher.specs.Hasher.{taken}
 use Rattle.hasher.specs.declared.Hasher.{Hasher}
-use Rattle.update.specs.Update.{streamOf}
+use Rattle.absorb.specs.Absorb.{streamOf}
 use Rattle.finish.specs.declared.Outcome.{Outcome}
 use Rattle.finish.specs.declared.Outcome.the-variants.{Done}
 use Rattle.claims.specs.Message.{OneMetIn}

@@ -28,5 +28,5 @@ abbrev pub TypedTables : Tables → Type 0
 TypedTables t = AllWords (t .vectors)
 
 -- each of the tables is good
-abbrev pub AllGood : Tables → Type 0
-AllGood t = GoodTable (t .vectors)
+abbrev pub TablesGood : Tables → Type 0
+TablesGood t = GoodTable (t .vectors)

@@ -6,8 +6,7 @@ use Prim.Native.Nat.{ℕ, _+_, _≤_}
 use native.Mathlib.Nat.{zero-add}
 use native.Mathlib.Omega.{arith}
 use lib.ListN.{length, drop}
-use lib.Seq.{sets, sets-eq, drop-length, paste}
-use Rattle.octets.proofs.Stored.{stored-all}
+use lib.Seq.{sets, sets-eq, drop-length}
 use Rattle.layout.specs.Layout.{bitOf}
 
 -- every element stored, from the first on
@@ -17,10 +16,6 @@ filled vs l e =
     ∙ ap (λ (k : ℕ). [] ++ vs ++ drop k l) (zero-add (length vs) ∙ sym e)
     ∙ ap (λ (r : List ℕ). vs ++ r) (drop-length l)
     ∙ append-nil vs
-
--- all of the n bytes of a slice
-pub stored : (out s : List ℕ) (n : ℕ) → length out ≡ n → length s ≡ n → paste out 0 s n ≡ s
-stored out s n eo es = rw (← es) (stored-all out s (eo ∙ sym es))
 
 bit-le : (b : Bool) → bitOf b ≤ 1
 bit-le true = omega arith

@@ -1,5 +1,5 @@
 -- What a copy leaves where it fills all of a slice, and a slice from a place on. Assumes nothing.
-use mathlib.Core.Path.{_≡_, refl, sym, _∙_}
+use mathlib.Core.Path.{_≡_, sym, _∙_}
 use mathlib.Core.List.{List, append-nil}
 use Prim.Native.Nat.{ℕ, _+_, _-_}
 use native.Mathlib.Omega.{arith}
@@ -13,10 +13,6 @@ stored-n out s n o e =
     let k : 0 + n ≡ length out = zero-add n ∙ sym o in
     let m : n ≡ length s = sym e in
     rw (k, m, take-length s, drop-length out, append-nil s)
-
--- as many bytes as there is room for
-pub stored-all : (out s : List ℕ) → length out ≡ length s → paste out 0 s (length s) ≡ s
-stored-all out s e = stored-n out s (length s) e refl
 
 -- a list from a place on, as a part of a slice gives it
 pub tail-is : (s : List ℕ) (at : ℕ) → take (length s - at) (drop at s) ≡ drop at s

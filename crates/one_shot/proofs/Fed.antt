@@ -17,9 +17,9 @@ use Rattle.stream.proofs.Folded.{folded-mark, folded-blocks}
 use Rattle.hasher.specs.Hasher.{wellFormed, freshOf}
 use Rattle.hasher.proofs.Formed.{at-formed}
 use Rattle.hasher.proofs.Zeros.{zeros-are}
-use Rattle.update.specs.Update.{restOf, absorbed}
-use Rattle.update.specs.Ready.{Ready}
-use Rattle.update.proofs.Moves.{rest-length, absorbed-is}
+use Rattle.absorb.specs.Absorb.{restOf, absorbed}
+use Rattle.absorb.specs.Ready.{Ready}
+use Rattle.absorb.proofs.Moves.{rest-length, absorbed-is}
 use Rattle.finish.specs.Finish.{lastChain}
 use Rattle.one_shot.specs.Whole.{blocksOf, wholeRefusal, wholeChain}
 use Rattle.one_shot.proofs.Padded.{last-chain-is}

@@ -17,8 +17,8 @@ use Rattle.stream.specs.declared.Chain.{Chain}
 use Rattle.stream.proofs.Folds.{chained-masks}
 use Rattle.stream.proofs.Folded.{folded-is, folded-cut, folded-blocks}
 use Rattle.hasher.specs.Hasher.{zeroed, freshOf}
-use Rattle.update.specs.Update.{restOf, absorbed}
-use Rattle.update.proofs.Moves.{rest-length, absorbed-is}
+use Rattle.absorb.specs.Absorb.{restOf, absorbed}
+use Rattle.absorb.proofs.Moves.{rest-length, absorbed-is}
 use Rattle.finish.specs.Finish.{lastChain}
 
 -- of the masks of two calls, those of the second, and what the first looks at

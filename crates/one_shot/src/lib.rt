@@ -1,6 +1,5 @@
 // A whole message in one call: the update and the finish of a new hasher.
 ghost use mathlib.Core.Path.{_≡_};
-ghost use lib.ListN.{length};
 ghost use Rattle.stream.specs.Loan.{loanOf};
 ghost use Rattle.one_shot.specs.Whole.{wholeRefusal, wholeOf, digested};
 use finish::Outcome;
@@ -14,7 +13,7 @@ use refusal::is_nothing;
 use stream::loan_refusal;
 use stream::masks_from;
 use update::MOST_BYTES;
-use update::absorb;
+use absorb::absorb;
 use verdict::verdict_of;
 
 // What the call gives: 20 zeros for the digest on a refusal.

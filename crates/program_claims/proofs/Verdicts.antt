@@ -3,8 +3,7 @@ use mathlib.Core.Path.{_≡_, refl, sym, ap, _∙_}
 use mathlib.Core.Bool.{Bool, true, false, false≢true}
 use mathlib.Core.List.{List, []}
 use mathlib.Core.Option.{Option, none, some, Option·some-injective}
-use Prim.Native.Nat.{ℕ, _+_}
-use lib.IntN.{pos}
+use Prim.Native.Nat.{ℕ}
 use Rattle.word.specs.Choice.{pick}
 use Rattle.refusal.specs.Refusal.{isNothing}
 use Rattle.refusal.specs.declared.Refusal.{Refusal}
@@ -12,18 +11,17 @@ use Rattle.refusal.proofs.Chains.{nothing-is}
 use Rattle.verdict.specs.declared.Verdict.{Verdict}
 use Rattle.flags.specs.declared.Flags.{Flags}
 use Rattle.hasher.specs.Hasher.{freshOf}
-use Rattle.table_file.specs.File.{mostFileBytes, tableOf, fileFault}
+use Rattle.table_file.specs.File.{tableOf, fileFault}
 use Rattle.stream.specs.Loan.{tablesOf, loanOf}
 use Rattle.finish.specs.Finish.{finished}
 use Rattle.finish.specs.declared.Outcome.{Outcome}
 use Rattle.finish.specs.declared.Outcome.the-variants.{Done, Refused}
 use Rattle.claims.specs.Pieces.{hashed}
-use Rattle.arguments.specs.Arguments.{settingOf, flagsOf}
-use Rattle.arguments.specs.declared.Setting.{Setting}
+use Rattle.arguments.specs.Arguments.{flagsOf}
 use Rattle.line.specs.declared.Saying.{Saying}
 use Rattle.line.specs.declared.Saying.the-variants.{Verdict as SayVerdict, Refused as SayRefused, Unread}
 use Rattle.program.specs.Reads.{Read, below0, intakeOf, Possible}
-use Rattle.program.specs.Files.{File, Contents, holds, unreadable, unfinished, contentsOf}
+use Rattle.program.specs.Files.{File, Contents, holds, unreadable, unfinished}
 use Rattle.program.specs.Given.{Argument, kindsRead, tablePlace}
 use Rattle.program.specs.Reply.{withoutDigest, outcomeReply, finishReply, intakeReply, replyToMessage, replyWithContents, planReply, programReply, ProgramReplies}
 use Rattle.program.specs.declared.Intake.{Intake}

@@ -1,62 +1,91 @@
 // Whether two hashers are the same in every field.
-use flags::Flags;
-use flags::Masks;
+ghost use mathlib.Core.Path.{_≡_};
+ghost use Rattle.octets.specs.Octets.{sameBytes};
+ghost use Rattle.step.specs.Step.{regsOf, sameRegs};
+ghost use Rattle.flags.specs.Flags.{isLent};
+ghost use Rattle.refusal_run.specs.Same.{sameBit, sameFlags, sameCounts, sameHasher};
 use hasher::Hasher;
 use octets::same_bytes;
 use step::regs_of;
 use step::same_regs;
+use flags::Flags;
+use flags::Masks;
 
-fn same_pending(a: &[u8; 64], b: &[u8; 64]) -> bool {
+fn same_words(a: [u32; 5], b: [u32; 5]) -> bool
+    ensures { λ r. ⌜ r ≡ sameRegs (regsOf a) (regsOf b) ⌝ }
+{
+    same_regs(regs_of(a), regs_of(b))
+}
+
+fn same_pending(a: &[u8; 64], b: &[u8; 64]) -> bool
+    ensures { λ r. ⌜ r ≡ sameBytes (now (a .entry)) (now (b .entry)) ⌝ }
+{
     same_bytes(a, b)
 }
 
-fn bit(on: bool) -> usize {
-    if on {
-        return 1;
+fn same_bit(a: bool, b: bool) -> bool
+    ensures { λ r. ⌜ r ≡ sameBit a b ⌝ }
+{
+    if a {
+        return b;
     }
-    0
+    !b
 }
 
-fn bit_of(m: Masks) -> usize {
+fn is_lent(m: Masks) -> bool
+    ensures { λ r. ⌜ r ≡ isLent m ⌝ }
+{
     match m {
-        Masks::All => 0,
-        Masks::Lent => 1,
+        Masks::All => false,
+        Masks::Lent => true,
     }
 }
 
-fn same_flags(a: Flags, b: Flags) -> bool {
+fn same_masks(m: Masks, n: Masks) -> bool
+    ensures { λ r. ⌜ r ≡ sameBit (isLent m) (isLent n) ⌝ }
+{
+    same_bit(is_lent(m), is_lent(n))
+}
+
+fn same_flags(a: Flags, b: Flags) -> bool
+    ensures { λ r. ⌜ r ≡ sameFlags a b ⌝ }
+{
     let m = a.masks;
     let n = b.masks;
-    if bit(a.detect) != bit(b.detect) {
+    if !same_bit(a.detect, b.detect) {
         return false;
     }
-    if bit(a.mitigate) != bit(b.mitigate) {
+    if !same_bit(a.mitigate, b.mitigate) {
         return false;
     }
-    if bit_of(m) != bit_of(n) {
+    if !same_masks(m, n) {
         return false;
     }
-    bit(a.reduced) == bit(b.reduced)
+    same_bit(a.reduced, b.reduced)
 }
 
-fn same_counts(a: Hasher, b: Hasher) -> bool {
+fn same_counts(a: Hasher, b: Hasher) -> bool
+    ensures { λ r. ⌜ r ≡ sameCounts a b ⌝ }
+{
     if a.fill != b.fill {
         return false;
     }
     if a.blocks != b.blocks {
         return false;
     }
-    bit(a.mark) == bit(b.mark)
+    same_bit(a.mark, b.mark)
 }
 
-pub(crate) fn same_hasher(a: Hasher, b: Hasher) -> bool {
+pub(crate) fn same_hasher(a: Hasher, b: Hasher) -> bool
+    ensures { λ r. ⌜ r ≡ sameHasher a b ⌝ }
+{
     let words = a.words;
     let pending = a.pending;
     let flags = a.flags;
     let words_b = b.words;
     let pending_b = b.pending;
     let flags_b = b.flags;
-    if !same_regs(regs_of(words), regs_of(words_b)) {
+    if !same_words(words, words_b) {
         return false;
     }
     if !same_pending(&pending, &pending_b) {

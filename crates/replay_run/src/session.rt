@@ -11,7 +11,6 @@ use cases::flags_of;
 use finish::Outcome;
 use finish::finish;
 use finish::finish_and_reset;
-use flags::Flags;
 use hasher::Hasher;
 use hasher::Updated;
 use hasher::reset;

@@ -1,11 +1,11 @@
 -- Laws of the fold over blocks, for any block step. Assumes nothing.
-use mathlib.Core.Path.{_≡_, refl, sym, ap, _∙_}
+use mathlib.Core.Path.{_≡_, refl}
 use mathlib.Core.List.{List, [], _∷_, _++_}
-use Prim.Native.Nat.{ℕ, zero, suc, _+_, _-_, _*_, _/_, _≤_, _<_}
+use Prim.Native.Nat.{ℕ, zero, suc, _+_, _-_, _*_, _≤_, _<_}
 use native.Mathlib.Nat.{not-suc-le-zero, le-of-suc-le-suc}
 use native.Mathlib.Omega.{arith}
-use lib.ListN.{length, getD, take, drop, length-drop, List·getD-append, take-append-drop}
-use lib.Seq.{drop-drop, getD-drop, take-append-le, drop-append-le, length-take-le}
+use lib.ListN.{length, getD, take, drop, length-drop, List·getD-append}
+use lib.Seq.{drop-drop, getD-drop, take-append-le, drop-append-le}
 use Rattle.detect.specs.declared.Mode.{Mode}
 use Rattle.stream.specs.Fold.{allBits, checkedOf, chained}
 use Rattle.stream.specs.declared.Chain.{Chain}

@@ -31,18 +31,18 @@ right false k n = (λ e u. absurd (false≢true u), λ h. refl)
 pub masks-right : (f : Flags) (k n : ℕ) → (masksWrong f k n ≡ false) ↔ (usesMasks f ≡ true → k ≡ n)
 masks-right f k n = right (usesMasks f) k n
 
-pub record Accepted (f : Flags) (l : Loan) (blocks : ℕ) : Type 0 where
+pub record AcceptedLoan (f : Flags) (l : Loan) (blocks : ℕ) : Type 0 where
   pub counts : WellCounted f l blocks
   pub good : tablesRefusal f (l .tables) ≡ Nothing
 
 module _ (f : Flags) (l : Loan) (blocks : ℕ) where
-  pub loan-accepted : loanRefusal f l blocks ≡ Nothing → Accepted f l blocks
+  pub loan-accepted : loanRefusal f l blocks ≡ Nothing → AcceptedLoan f l blocks
   unfolding loanRefusal
   loan-accepted e =
       let r = passed _ MaskCount _ (lit< tt) e in
       record { counts = masks-right f (length (l .masks)) blocks .0 (r .0); good = r .1 }
 
-  pub accepted-loan : Accepted f l blocks → loanRefusal f l blocks ≡ Nothing
+  pub accepted-loan : AcceptedLoan f l blocks → loanRefusal f l blocks ≡ Nothing
   unfolding loanRefusal
   accepted-loan a = rw (masks-right f (length (l .masks)) blocks .1 (a .counts)) (a .good)
 

@@ -1,7 +1,7 @@
 // A table file: its bytes as the words of a table, and its check.
 ghost use mathlib.Core.Path.{_≡_};
 ghost use Prim.Native.Nat.{_<_};
-ghost use lib.ListN.{length, getD};
+ghost use lib.ListN.{getD};
 ghost use Rattle.octets.specs.Octets.{be32At};
 ghost use Rattle.table_file.specs.File.{mostWords, fileWords, wholeWords, fileFault};
 use octets::be_word;

@@ -10,8 +10,8 @@ use Rattle.stream.proofs.Folded.{folded-mark, folded-blocks}
 use Rattle.hasher.specs.Hasher.{wellFormed, taken, chainOf}
 use Rattle.hasher.specs.declared.Hasher.{Hasher}
 use Rattle.hasher.proofs.Formed.{Formed, formed, at-formed}
-use Rattle.update.specs.Update.{streamOf, restOf, absorbed}
-use Rattle.update.proofs.Moves.{rest-length, stream-long, chainAfter, absorbed-is}
+use Rattle.absorb.specs.Absorb.{streamOf, restOf, absorbed}
+use Rattle.absorb.proofs.Moves.{rest-length, stream-long, chainAfter, absorbed-is}
 use Rattle.update.proofs.Taken.{Taken}
 
 module _ (h : Hasher) (bytes : List ℕ) (l : Loan) where

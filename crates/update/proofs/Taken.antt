@@ -12,7 +12,8 @@ use Rattle.fips.specs.Fips.{mostBytes}
 use Rattle.stream.specs.Loan.{Loan, loanRefusal}
 use Rattle.hasher.specs.Hasher.{wellFormed, taken}
 use Rattle.hasher.specs.declared.Hasher.{Hasher}
-use Rattle.update.specs.Update.{blocksFilled, updateRefusal, absorbed, updated}
+use Rattle.absorb.specs.Absorb.{absorbed}
+use Rattle.update.specs.Update.{blocksFilled, updateRefusal, updated}
 
 pub record Taken (h : Hasher) (bytes : List ℕ) (l : Loan) : Type 0 where
   pub well : wellFormed h ≡ true

@@ -1,21 +1,14 @@
-// An update: a piece of the message, its whole blocks compressed and the rest left pending.
+// An update: what it refuses of a piece of the message, and the piece taken.
 ghost use mathlib.Core.Path.{_≡_};
-ghost use Prim.Native.Nat.{_+_, _/_, _^_, _<_};
-ghost use lib.ListN.{length};
 ghost use Rattle.stream.specs.Loan.{loanOf};
-ghost use Rattle.update.specs.Update.{updateRefusal, advanced, absorbed, updated};
-ghost use Rattle.update.specs.Ready.{Ready};
-use flags::Flags;
+ghost use Rattle.update.specs.Update.{updateRefusal, updated};
+use absorb::absorb;
 use hasher::Hasher;
 use hasher::Updated;
 use hasher::well_formed;
-use octets::store;
 use refusal::Refusal;
 use refusal::is_nothing;
-use stream::Chain;
-use stream::fold_blocks;
 use stream::loan_refusal;
-use stream::masks_from;
 
 // The longest message, in bytes.
 pub const MOST_BYTES: u64 = 0x1FFFFFFFFFFFFFFF;
@@ -34,41 +27,6 @@ fn update_refusal(h: Hasher, bytes: &[u8], table: &[u32], masks: &[u32]) -> Refu
         return Refusal::MessageLength;
     }
     loan_refusal(flags, table, masks, (fill + bytes.len()) / 64)
-}
-
-// The whole blocks of s compressed straight from it, from the chain c on, and the rest left pending.
-fn advance(flags: Flags, table: &[u32], c: Chain, s: &[u8], masks: &[u32]) -> Hasher
-    requires { ⌜ c .blocks + length (now s) / 64 < 2 ^ 64 ⌝ }
-    ensures { λ r. ⌜ r ≡ advanced flags (loanOf (now (table .entry)) (now (masks .entry))) c (now (s .entry)) ⌝ }
-{
-    let e = fold_blocks(flags, table, c, s, masks);
-    let at = 64 * (s.len() / 64);
-    let left = s.len() - at;
-    let mut pending = [0u8; 64];
-    store(&mut pending, 0, &s[at..], left);
-    Hasher::at(flags, e, pending, left)
-}
-
-// The work of an update that is not refused. Only a partial block goes through the pending bytes.
-pub fn absorb(h: Hasher, bytes: &[u8], table: &[u32], masks: &[u32]) -> Hasher
-    requires { ⌜ Ready h (now bytes) ⌝ }
-    ensures { λ r. ⌜ r ≡ absorbed h (now (bytes .entry)) (loanOf (now (table .entry)) (now (masks .entry))) ⌝ }
-{
-    let fill = h.fill;
-    let flags = h.flags;
-    let c = h.chain();
-    if fill == 0 {
-        return advance(flags, table, c, bytes, masks);
-    }
-    let mut pending = h.pending;
-    let room = 64 - fill;
-    if bytes.len() < room {
-        store(&mut pending, fill, bytes, bytes.len());
-        return Hasher::at(flags, c, pending, fill + bytes.len());
-    }
-    store(&mut pending, fill, bytes, room);
-    let first = fold_blocks(flags, table, c, &pending, masks);
-    advance(flags, table, first, &bytes[room..], masks_from(masks, 1))
 }
 
 // A piece of the message.

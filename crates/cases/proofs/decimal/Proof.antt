@@ -1,7 +1,6 @@
 -- `cases::decimal` meets its contract. The invariant: the digits that are left, behind the number so far, give the whole. Assumes nothing.
 use mathlib.Core.Path.{_≡_, refl, _∙_, sym}
 use Prim.Native.Nat.{_-_, _≤_}
-use native.Mathlib.Omega.{arith}
 use lib.ListN.{length, drop}
 use Rattle.cases.specs.Numbers.{decimalFrom, decimalOf}
 use Rattle.cases.proofs.Scan.{decimal-step, decimal-end}

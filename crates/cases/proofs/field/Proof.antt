@@ -1,5 +1,5 @@
 -- `cases::field` meets its contract. Assumes nothing.
-use Rattle.cases.specs.Lines.{startOf, fieldOf}
+use Rattle.cases.specs.Lines.{fieldOf}
 use borrow.Author.Needs.{needs}
 use Rattle.cases.proofs.field.Statement.{statement}
 use Rattle.cases.proofs.field.Tie as tie

@@ -1,8 +1,8 @@
 -- `cases::find` meets its contract. The invariant: the first place from `i` on is the first from `from` on. Assumes nothing.
 use mathlib.Core.Path.{_≡_, refl}
-use Prim.Native.Nat.{_+_, _-_, _≤_}
+use Prim.Native.Nat.{_-_, _≤_}
 use native.Mathlib.Omega.{arith}
-use lib.ListN.{length, drop}
+use lib.ListN.{length}
 use borrow.Author.Needs.{needs}
 use Rattle.cases.specs.Lines.{foundAt}
 use Rattle.cases.proofs.Scan.{until-here, until-later, until-end}

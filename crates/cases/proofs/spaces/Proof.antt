@@ -1,5 +1,5 @@
 -- `cases::spaces` meets its contract. The invariant: the spaces counted and those that are left are all of them. Assumes nothing.
-use mathlib.Core.Path.{_≡_, refl}
+use mathlib.Core.Path.{_≡_}
 use Prim.Native.Nat.{_+_, _-_, _≤_}
 use native.Mathlib.Omega.{arith}
 use lib.ListN.{length, drop}

@@ -4,7 +4,7 @@ use Prim.Native.Nat.{_-_, _≤_}
 use native.Mathlib.Numerals.{add-one}
 use native.Mathlib.Omega.{arith}
 use lib.ListN.{length}
-use Rattle.cases.specs.Lines.{space, foundAt, placeAfter, startOf}
+use Rattle.cases.specs.Lines.{startOf}
 use borrow.Author.Needs.{needs}
 use Rattle.cases.proofs.start_of.Statement.{statement}
 use Rattle.cases.proofs.start_of.Tie as tie

@@ -5,9 +5,8 @@ use native.Mathlib.Omega.{arith}
 use lib.ListN.{length}
 use lib.Seq.{length-take-le}
 use Rattle.fips.proofs.Tails.{Room, tail-room}
-use Rattle.fips.specs.Tail.{tailBlocks}
 use Rattle.stream.specs.declared.Chain.{Chain}
-use Rattle.hasher.proofs.Formed.{Formed, formed}
+use Rattle.hasher.proofs.Formed.{formed}
 use Rattle.finish.specs.Finish.{lastChain}
 use borrow.Author.Needs.{needs}
 use Rattle.finish.proofs.last_chain.Statement.{statement}

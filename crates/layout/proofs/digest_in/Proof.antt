@@ -1,7 +1,7 @@
 -- `layout::digest_in` meets its contract. Assumes nothing.
 use mathlib.Core.Path.{refl, _∙_}
 use lib.ListN.{replicate}
-use Rattle.layout.proofs.Stores.{stored}
+use Rattle.octets.proofs.Stored.{stored-n}
 use borrow.Author.Needs.{needs}
 use Rattle.layout.proofs.digest_in.Statement.{statement}
 use Rattle.layout.proofs.digest_in.Tie as tie
@@ -15,7 +15,7 @@ store-requires c κs = search needs
 returns : tie.Need-returns
 returns c =
     let k = c .before .before .before .before in
-    c .before .store .ensures ∙ stored (replicate 20 0) (k .args .s .now) 20 refl (k .pre)
+    c .before .store .ensures ∙ stored-n (replicate 20 0) (k .args .s .now) 20 refl (k .pre)
 
 pub digest-in-spec : {M : Type 1} → statement M
 digest-in-spec = tie.close (tie.spec slice-aggregate-store store-requires returns)

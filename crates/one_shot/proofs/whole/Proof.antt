@@ -1,5 +1,4 @@
 -- `one_shot::whole` meets its contract. Assumes nothing.
-use mathlib.Core.Path.{_≡_}
 use Prim.Native.Nat.{_≤_}
 use lib.ListN.{length}
 use Rattle.refusal.proofs.Chains.{nothing-is}

@@ -1,5 +1,4 @@
 -- `program::plan_of` meets its contract. Assumes nothing.
-use borrow.Author.Needs.{needs}
 use Rattle.program.proofs.plan_of.Statement.{statement}
 use Rattle.program.proofs.plan_of.Tie as tie
 

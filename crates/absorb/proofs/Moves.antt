@@ -15,7 +15,7 @@ use Rattle.stream.proofs.Folded.{folded-none, folded-join}
 use Rattle.hasher.specs.Hasher.{allZero, chainOf, zeroed, hasherAt}
 use Rattle.hasher.specs.declared.Hasher.{Hasher}
 use Rattle.hasher.proofs.Zeros.{zero-all}
-use Rattle.update.specs.Update.{streamOf, restOf, advanced, absorbed}
+use Rattle.absorb.specs.Absorb.{streamOf, restOf, advanced, absorbed}
 
 pub rest-length : (s : List ℕ) → length (restOf s) ≡ length s % 64
 rest-length s = simp length-drop (omega arith)

@@ -1,13 +1,13 @@
--- `update::advance` meets its contract. Assumes nothing.
+-- `absorb::advance` meets its contract. Assumes nothing.
 use mathlib.Core.Path.{_≡_, sym}
 use Prim.Native.Nat.{_-_, _*_, _/_}
 use lib.ListN.{length, drop, length-drop}
 use Rattle.octets.proofs.Stored.{tail-is}
-use Rattle.update.specs.Update.{advanced}
-use Rattle.update.proofs.Moves.{rest-stored}
+use Rattle.absorb.specs.Absorb.{advanced}
+use Rattle.absorb.proofs.Moves.{rest-stored}
 use borrow.Author.Needs.{needs}
-use Rattle.update.proofs.advance.Statement.{statement}
-use Rattle.update.proofs.advance.Tie as tie
+use Rattle.absorb.proofs.advance.Statement.{statement}
+use Rattle.absorb.proofs.advance.Tie as tie
 
 fold-blocks-requires : tie.Need-fold-blocks-requires
 fold-blocks-requires c κs = search needs

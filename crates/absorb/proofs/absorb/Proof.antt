@@ -1,4 +1,4 @@
--- `update::absorb` meets its contract. Assumes nothing.
+-- `absorb::absorb` meets its contract. Assumes nothing.
 use mathlib.Core.Path.{_≡_, sym, ap, _∙_}
 use Prim.Native.Nat.{_+_, _-_, _*_, _≤_}
 use native.Mathlib.Omega.{arith}
@@ -9,11 +9,11 @@ use Rattle.stream.specs.Loan.{loanOf}
 use Rattle.stream.specs.declared.Chain.{Chain}
 use Rattle.stream.proofs.Folded.{folded-blocks}
 use Rattle.hasher.specs.Hasher.{chainOf}
-use Rattle.update.specs.Update.{absorbed, streamOf}
-use Rattle.update.proofs.Moves.{advanced-none, advanced-join, stream-long, pend-more, pend-block, pend-full}
+use Rattle.absorb.specs.Absorb.{absorbed, streamOf}
+use Rattle.absorb.proofs.Moves.{advanced-none, advanced-join, stream-long, pend-more, pend-block, pend-full}
 use borrow.Author.Needs.{needs}
-use Rattle.update.proofs.absorb.Statement.{statement}
-use Rattle.update.proofs.absorb.Tie as tie
+use Rattle.absorb.proofs.absorb.Statement.{statement}
+use Rattle.absorb.proofs.absorb.Tie as tie
 
 -- the arrays have their sizes
 sizes : (c : tie.Start) → (length (c .args .h .pending) ≡ 64) × (length (c .args .h .words) ≡ 5)

@@ -1,0 +1,2 @@
+pub mod Absorb
+pub mod Ready

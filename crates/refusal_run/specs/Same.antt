@@ -1,0 +1,33 @@
+-- Whether two hashers are the same in every field.
+use mathlib.Core.Bool.{Bool, not, _&&_}
+use lib.Dec.{eqb}
+use Rattle.word.specs.Choice.{pick}
+use Rattle.step.specs.Step.{regsOf, sameRegs}
+use Rattle.octets.specs.Octets.{sameBytes}
+use Rattle.flags.specs.Flags.{isLent}
+use Rattle.flags.specs.declared.Flags.{Flags}
+use Rattle.hasher.specs.declared.Hasher.{Hasher}
+
+-- both or neither
+abbrev pub sameBit : Bool → Bool → Bool
+sameBit a b = pick a b (not b)
+
+-- the same four settings
+abbrev pub sameFlags : Flags → Flags → Bool
+sameFlags a b =
+    sameBit (a .detect) (b .detect)
+    && (sameBit (a .mitigate) (b .mitigate)
+    && (sameBit (isLent (a .masks)) (isLent (b .masks))
+    && sameBit (a .reduced) (b .reduced)))
+
+-- the same fill, block count and mark
+abbrev pub sameCounts : Hasher → Hasher → Bool
+sameCounts a b = eqb (a .fill) (b .fill) && (eqb (a .blocks) (b .blocks) && sameBit (a .mark) (b .mark))
+
+-- the same in every field
+unfoldable pub sameHasher : Hasher → Hasher → Bool
+sameHasher a b =
+    sameRegs (regsOf (a .words)) (regsOf (b .words))
+    && (sameBytes (a .pending) (b .pending)
+    && (sameFlags (a .flags) (b .flags)
+    && sameCounts a b))

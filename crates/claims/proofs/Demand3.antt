@@ -22,9 +22,10 @@ use Rattle.table.specs.Limits.{dmWords, recordWords}
 use Rattle.table.specs.Table.{testWordAt, dmAt}
 use Rattle.table.specs.Good.{GoodRecord, GoodTable}
 use Rattle.table.proofs.Good.{step-of}
-use Rattle.detect.specs.Detect.{siblingEnds, marks, answerOf, oneBlockOf}
+use Rattle.search.specs.Marks.{siblingEnds, marks}
+use Rattle.detect.specs.Detect.{answerOf, oneBlockOf}
 use Rattle.detect.specs.declared.Mode.{Mode}
-use Rattle.detect.proofs.Ended.{found-ended, marked-some, some-marked}
+use Rattle.search.proofs.Ended.{found-ended, marked-some, some-marked}
 use Rattle.claims.specs.Sibling.{siblingWords, stateAtTest, Reaches, Meets, Met, MeetsIn, MetIn}
 use Rattle.claims.proofs.OneBlock.{block-answered}
 use Rattle.claims.proofs.Refusals.{block-0}

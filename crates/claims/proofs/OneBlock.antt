@@ -21,11 +21,12 @@ use Rattle.sibling.specs.Sibling.{siblingSchedule, recompressed}
 use Rattle.block.proofs.Growth.{word, schedule-list, schedule-at}
 use Rattle.table.specs.Limits.{dmWords}
 use Rattle.table.specs.Table.{recordsIn, maskNumberAt, dmAt}
-use Rattle.detect.specs.Detect.{hasBit, selects, stepsBeforeAt, siblingEnds, marks, foundIn, answerOf, oneBlockRefusal, refusedBlock, answeredBlock, oneBlockOf}
+use Rattle.search.specs.Marks.{hasBit, selects, stepsBeforeAt, siblingEnds, marks, foundIn}
+use Rattle.detect.specs.Detect.{answerOf, oneBlockRefusal, refusedBlock, answeredBlock, oneBlockOf}
 use Rattle.detect.specs.declared.Mode.{Mode}
 use Rattle.detect.specs.declared.OneBlock.{OneBlock}
-use Rattle.detect.specs.Ended.{Ended}
-use Rattle.detect.proofs.Ended.{found-ended, some-marked, none-tried}
+use Rattle.search.specs.Ended.{Ended}
+use Rattle.search.proofs.Ended.{found-ended, some-marked, none-tried}
 use Rattle.refusal.proofs.Passed.{of-refusal}
 
 module _ (mode : Mode) (table : List ℕ) (h : Regs) (block : List ℕ) (mask : ℕ) where

@@ -11,7 +11,7 @@ use Rattle.step.specs.declared.Regs.{Regs}
 use Rattle.block.specs.Schedule.{wordsOf, scheduleOf}
 use Rattle.block.specs.Compress.{overSchedule, compressOf}
 use Rattle.table.specs.Table.{recordsIn, testWordAt, dmAt}
-use Rattle.detect.specs.Detect.{selects}
+use Rattle.search.specs.Marks.{selects}
 
 -- the sixteen words of the sibling block by record i: the block's own, `xor` the record's first sixteen difference words
 abbrev pub siblingWords : List ℕ → List ℕ → ℕ → List ℕ

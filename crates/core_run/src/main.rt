@@ -15,7 +15,7 @@ use cases::records_of;
 use cases::rest_of;
 use cases::say_title;
 use cases::word_at;
-use detect::Found;
+use search::Found;
 use detect::Mode;
 use detect::OneBlock;
 use detect::one_block;

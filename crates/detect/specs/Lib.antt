@@ -1,3 +1,1 @@
-pub mod Search
-pub mod Ended
 pub mod Detect

@@ -1,4 +1,4 @@
--- `detect::search` meets its contract. The invariant: what is left of the search, from here, gives what the whole gives. Assumes nothing.
+-- `search::search` meets its contract. The invariant: what is left of the search, from here, gives what the whole gives. Assumes nothing.
 use mathlib.Core.Path.{_≡_, sym, _∙_}
 use mathlib.Core.Logic.{⊎-elim}
 use Prim.Native.Nat.{_-_, _≤_}
@@ -7,11 +7,11 @@ use native.Mathlib.Omega.{arith}
 use lib.ListN.{length}
 use borrow.Author.Needs.{needs}
 use Rattle.table.specs.Table.{recordsIn}
-use Rattle.detect.specs.Search.{searchFrom}
-use Rattle.detect.specs.Detect.{selects, marks, foundIn}
-use Rattle.detect.proofs.Turns.{turn-skip, turn-try, turn-hit, turn-done}
-use Rattle.detect.proofs.search.Statement.{statement}
-use Rattle.detect.proofs.search.Tie as tie
+use Rattle.search.specs.Search.{searchFrom}
+use Rattle.search.specs.Marks.{selects, marks, foundIn}
+use Rattle.search.proofs.Turns.{turn-skip, turn-try, turn-hit, turn-done}
+use Rattle.search.proofs.search.Statement.{statement}
+use Rattle.search.proofs.search.Tie as tie
 
 abbrev Inv-loop : tie.InvT-loop
 Inv-loop reduced table h s w mask tried₀ i₀ i-end tried i =

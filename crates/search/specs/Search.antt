@@ -2,7 +2,7 @@
 use mathlib.Core.Bool.{Bool, true, false}
 use Prim.Native.Nat.{ℕ, zero, suc, _+_}
 use Rattle.word.specs.Choice.{pick}
-use Rattle.detect.specs.declared.Found.{Found}
+use Rattle.search.specs.declared.Found.{Found}
 
 -- the search through the n records from place i on, k of those before having been tried
 unfoldable pub searchFrom : (ℕ → Bool) → (ℕ → Bool) → ℕ → ℕ → ℕ → Found

@@ -11,10 +11,10 @@ use lib.ListN.{length}
 use Rattle.word.specs.Choice.{pick}
 use Rattle.step.specs.declared.Regs.{Regs}
 use Rattle.table.specs.Table.{recordsIn}
-use Rattle.detect.specs.Detect.{selects, marks, foundIn}
-use Rattle.detect.specs.Search.{searchFrom, countOf}
-use Rattle.detect.specs.Ended.{NoneMarks, Ended, hit, miss}
-use Rattle.detect.specs.declared.Found.{Found}
+use Rattle.search.specs.Marks.{selects, marks, foundIn}
+use Rattle.search.specs.Search.{searchFrom, countOf}
+use Rattle.search.specs.Ended.{NoneMarks, Ended, hit, miss}
+use Rattle.search.specs.declared.Found.{Found}
 
 module _ (selected marks : ℕ → Bool) where
   front : (i p : ℕ) → (selected i ≡ true → marks i ≡ false) → NoneMarks selected marks (suc i) p → NoneMarks selected marks i p

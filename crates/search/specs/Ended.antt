@@ -2,8 +2,8 @@
 use mathlib.Core.Path.{_≡_}
 use mathlib.Core.Bool.{Bool, true, false}
 use Prim.Native.Nat.{ℕ, suc, _≤_, _<_}
-use Rattle.detect.specs.Search.{countOf}
-use Rattle.detect.specs.declared.Found.{Found}
+use Rattle.search.specs.Search.{countOf}
+use Rattle.search.specs.declared.Found.{Found}
 
 module _ (selected marks : ℕ → Bool) where
   -- no place from i on and below n is selected and marks

@@ -1,8 +1,8 @@
--- `detect::record_marks` meets its contract. Assumes nothing.
+-- `search::record_marks` meets its contract. Assumes nothing.
 use borrow.Author.Needs.{needs}
-use Rattle.detect.proofs.Marks.{marks-kept}
-use Rattle.detect.proofs.record_marks.Statement.{statement}
-use Rattle.detect.proofs.record_marks.Tie as tie
+use Rattle.search.proofs.Marks.{marks-kept}
+use Rattle.search.proofs.record_marks.Statement.{statement}
+use Rattle.search.proofs.record_marks.Tie as tie
 
 sibling-ends-requires : tie.Need-sibling-ends-requires
 sibling-ends-requires c κs = search needs

@@ -1,9 +1,9 @@
--- `detect::has_bit` meets its contract. Assumes nothing.
+-- `search::has_bit` meets its contract. Assumes nothing.
 use mathlib.Core.Path.{sym}
 use borrow.Author.Needs.{needs}
-use Rattle.detect.proofs.Turns.{past-the-end}
-use Rattle.detect.proofs.has_bit.Statement.{statement}
-use Rattle.detect.proofs.has_bit.Tie as tie
+use Rattle.search.proofs.Turns.{past-the-end}
+use Rattle.search.proofs.has_bit.Statement.{statement}
+use Rattle.search.proofs.has_bit.Tie as tie
 
 shr-result : tie.Need-shr-result
 shr-result c = search needs

@@ -1,11 +1,11 @@
--- `detect::sibling_ends` meets its contract. Assumes nothing.
+-- `search::sibling_ends` meets its contract. Assumes nothing.
 use mathlib.Core.Path.{_≡_}
 use Prim.Native.Nat.{_+_, _-_, _*_}
 use native.Mathlib.Omega.{arith}
 use borrow.Author.Needs.{needs}
 use Rattle.table.specs.Limits.{recordWords, dmWords}
-use Rattle.detect.proofs.sibling_ends.Statement.{statement}
-use Rattle.detect.proofs.sibling_ends.Tie as tie
+use Rattle.search.proofs.sibling_ends.Statement.{statement}
+use Rattle.search.proofs.sibling_ends.Tie as tie
 
 mul-at : tie.Need-mul-at
 mul-at c = search needs

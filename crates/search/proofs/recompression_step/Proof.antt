@@ -1,7 +1,7 @@
--- `detect::recompression_step` meets its contract. Assumes nothing.
+-- `search::recompression_step` meets its contract. Assumes nothing.
 use borrow.Author.Needs.{needs}
-use Rattle.detect.proofs.recompression_step.Statement.{statement}
-use Rattle.detect.proofs.recompression_step.Tie as tie
+use Rattle.search.proofs.recompression_step.Statement.{statement}
+use Rattle.search.proofs.recompression_step.Tie as tie
 
 enum-told : tie.Need-enum-told
 enum-told c = search needs

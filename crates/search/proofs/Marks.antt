@@ -12,7 +12,7 @@ use Rattle.block.specs.declared.States.{States}
 use Rattle.table.specs.Table.{stepsBefore, testtOf, testWordAt, dmAt}
 use Rattle.table.specs.declared.Testt.{Testt}
 use Rattle.table.specs.declared.Testt.the-variants.{T58, T65}
-use Rattle.detect.specs.Detect.{stepsBeforeAt, stateKept, endsFrom, siblingEnds, marks}
+use Rattle.search.specs.Marks.{stepsBeforeAt, stateKept, endsFrom, siblingEnds, marks}
 
 -- the state that was kept for a test step is the one after the steps before it
 state-kept : (h : Regs) (w : List ℕ) (t : Testt) → stateKept t (statesOf h w) ≡ stepsOf w 0 (stepsBefore t) h

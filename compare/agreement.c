@@ -1,5 +1,5 @@
 /* Breaks the agreement of proved.h in each way, one at a time: a call must return 255 and change no byte. Kept, it must not
- * return 255. Linked with the static library it asks the proved code, linked with second/second.c the second program.
+ * return 255; where it is refused, it must write its answer alone. Linked with the static library it asks the proved code, linked with second/second.c the second program.
  */
 #include "proved.h"
 #include <stdio.h>
@@ -82,6 +82,47 @@ static void kept(const char *name, uint32_t (*call)(void))
     printf("  %s said %u where it was kept\n", name, said);
 }
 
+/* One call after one change that it refuses by this number. */
+static void refused(const char *name, uint32_t (*call)(void), uint32_t number)
+{
+    struct lent before = m;
+    memset(m.answer, 0xA5, sizeof m.answer);
+    uint32_t said = call();
+    size_t numbers = call == one_block ? 4 : 2;
+    int amiss = 0;
+    for (size_t i = 0; i < 5; i++)
+        if ((m.answer[i] == 0xA5A5A5A5A5A5A5A5) == (i < numbers)) amiss = 1;
+    memcpy(m.answer, before.answer, sizeof m.answer);
+    tried++;
+    if (said == number && !amiss && memcmp(&before, &m, sizeof m) == 0) return;
+    wrong++;
+    printf("  %s said %u where it had to refuse by %u%s\n", name, said, number, said == number ? ", and did not write its answer alone" : "");
+}
+
+/* Outputs filled beforehand, so that zeros written there show. */
+static void filled(void)
+{
+    fresh();
+    memset(m.after, 0xA5, sizeof m.after);
+    memset(m.digest, 0xA5, sizeof m.digest);
+}
+
+static void refusals(void)
+{
+    static const struct { const char *name; uint32_t (*call)(void); int hasher; } calls[] = {
+        { "one_block", one_block, 0 }, { "update", update, 1 }, { "finish", finish, 1 },
+        { "finish_and_reset", finish_and_reset, 1 }, { "one_shot", one_shot, 0 }, { "table_fault", table_fault, 0 } };
+    for (size_t i = 0; i < sizeof calls / sizeof *calls; i++) {
+        filled();
+        m.table[0] = 32;
+        refused(calls[i].name, calls[i].call, 3);
+        filled();
+        m.state[0] = 64;
+        if (calls[i].hasher) refused(calls[i].name, calls[i].call, 1);
+    }
+    refused("reset", reset, 1);
+}
+
 static void hasher(const char *name, uint32_t (*call)(void))
 {
     lengths(name, call, &m.five);
@@ -116,6 +157,7 @@ int main(void)
     fresh();
     m.verdict = 0;
     broken("compare", compare);
+    refusals();
     printf("%ld comparisons, %ld differences\n", tried, wrong);
     return wrong != 0;
 }

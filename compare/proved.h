@@ -4,8 +4,8 @@
  * pointer that is not null and is aligned. Slices of a fixed length are lent at that length; the parameter after the
  * pointer has its name.
  * A call returns 255 and changes nothing where a fixed length, the mark, the flags or a verdict is not as said here. Else
- * it returns the refusal's number, 0 for none, and writes what it is lent for an answer (`answer`, `part`, `after`,
- * `digest`) whole: zeros for what a refusal does not give. A refusal leaves the hasher and `out` as they were.
+ * it returns the refusal's number, 0 for none, and writes `answer` or `part` whole: zeros for what a refusal does not give.
+ * A refusal leaves everything else as it was: the hasher, `after`, `digest` and `out`.
  *   words    the five chaining words
  *   pending  the 64 pending bytes
  *   state    fill, blocks, mark (0 or 1), flags (1 detect, 2 mitigate, 4 masks lent, 8 reduced, added up)

@@ -267,7 +267,6 @@ uint32_t purserumble_one_block(const uint32_t *words, size_t five, const uint8_t
     uint64_t place = 0;
     uint32_t refusal = block_len != 64 ? 8 : table_fault(table, table_len, &place);
     struct found found = { 0, 0, 0 };
-    memset(after, 0, 20);
     if (!refusal) {
         memcpy(after, words, 20);
         found = checked_block(after, block, table, table_len, mask, mitigate, reduced);
@@ -316,8 +315,7 @@ uint32_t purserumble_finish(const uint32_t *words, size_t five, const uint8_t *p
     struct hasher h = hasher_of(words, pending, state);
     answer[0] = 0;
     uint32_t refusal = finish_refusal(&h, 20, table, table_len, masks_len, &answer[1]);
-    if (refusal) memset(digest, 0, twenty);
-    else answer[0] = finished(h, digest, table, table_len, masks);
+    if (!refusal) answer[0] = finished(h, digest, table, table_len, masks);
     return refusal;
 }
 
@@ -344,7 +342,6 @@ uint32_t purserumble_one_shot(const uint8_t *bytes, size_t bytes_len, uint8_t *d
     struct hasher h = fresh(1 | 2 | 4);
     uint32_t refusal;
     answer[0] = answer[1] = 0;
-    memset(digest, 0, twenty);
     /* The message, the byte 80 and the 8 bytes of the length, rounded up to whole blocks. */
     if (bytes_len > most_bytes) refusal = 7;
     else refusal = lent_refusal(&h, ((uint64_t)bytes_len + 1 + 8 + 63) / 64, table, table_len, masks_len, &answer[1]);

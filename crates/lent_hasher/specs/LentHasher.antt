@@ -31,7 +31,7 @@ unfoldable pub finishCall : List ℕ → List ℕ → List ℕ → List ℕ → 
 finishCall words pending state digest l answer =
     let f = finished (hasherIn words pending state) l in
     guarded (hasherFits (length words) (length pending) state && (eqb (length digest) digestSize && eqb (length answer) 2))
-    (digestLeft (f .outcome) (f .digest))
+    (digestLeft (f .outcome) (f .digest) digest)
     (digest ∷ answer ∷ [])
 
 -- the call of a finish-and-reset

@@ -1,14 +1,15 @@
-/* Breaks the agreement of proved.h in each way, one at a time: a call must return 255 and change no byte. Kept, it must not
- * return 255. Linked with the static library it asks the proved code, linked with second/second.c the second program.
+/* Breaks the agreement of purserumble.h in each way, one at a time: a call must return 255 and change no byte. Kept, it must
+ * not return 255; where it is refused, it must write its answer alone. Linked with the static library it asks the proved
+ * code, linked with second/second.c the second program.
  */
-#include "proved.h"
+#include "../include/purserumble.h"
 #include <stdio.h>
 #include <string.h>
 
 /* Everything that a call is lent, and the lengths that it is told. Memory is there for one element more. */
 static struct lent {
     uint32_t words[6], after[6], table[82], mask[1], verdict;
-    uint64_t state[5], answer[5];
+    uint64_t flags, state[5], answer[5];
     uint8_t pending[65], bytes[1], digest[21], block[64], sheet[32], code[12];
     size_t five, five_after, sixty_four, four, twenty, two, four_answers;
 } m;
@@ -35,12 +36,13 @@ static uint32_t one_block(void)
 {
     return purserumble_one_block(m.words, m.five, m.block, 64, TABLE, 1, 1, 0, m.after, m.five_after, m.answer, m.four_answers);
 }
+static uint32_t new_hasher(void) { return purserumble_new(m.flags, HASHER); }
 static uint32_t update(void) { return purserumble_update(HASHER, m.bytes, 1, TABLE, NO_MASKS, ANSWER); }
 static uint32_t reset(void) { return purserumble_reset(HASHER, ANSWER); }
 static uint32_t finish(void) { return purserumble_finish(HASHER, m.digest, m.twenty, TABLE, NO_MASKS, ANSWER); }
 static uint32_t finish_and_reset(void)
 {
-    return purserumble_finish_and_reset(HASHER, m.digest, 20, TABLE, NO_MASKS, ANSWER);
+    return purserumble_finish_and_reset(HASHER, m.digest, m.twenty, TABLE, NO_MASKS, ANSWER);
 }
 static uint32_t one_shot(void) { return purserumble_one_shot(m.bytes, 1, m.digest, m.twenty, TABLE, m.mask, 1, ANSWER); }
 static uint32_t table_fault(void) { return purserumble_table_fault(TABLE, ANSWER); }
@@ -82,6 +84,96 @@ static void kept(const char *name, uint32_t (*call)(void))
     printf("  %s said %u where it was kept\n", name, said);
 }
 
+/* One call after one change that it refuses by this number. */
+static void refused(const char *name, uint32_t (*call)(void), uint32_t number)
+{
+    struct lent before = m;
+    memset(m.answer, 0xA5, sizeof m.answer);
+    uint32_t said = call();
+    size_t numbers = call == one_block ? 4 : 2;
+    int amiss = 0;
+    for (size_t i = 0; i < 5; i++)
+        if ((m.answer[i] == 0xA5A5A5A5A5A5A5A5) == (i < numbers)) amiss = 1;
+    memcpy(m.answer, before.answer, sizeof m.answer);
+    tried++;
+    if (said == number && !amiss && memcmp(&before, &m, sizeof m) == 0) return;
+    wrong++;
+    printf("  %s said %u where it had to refuse by %u%s\n", name, said, number, said == number ? ", and did not write its answer alone" : "");
+}
+
+/* Outputs filled beforehand, so that zeros written there show. */
+static void filled(void)
+{
+    fresh();
+    memset(m.after, 0xA5, sizeof m.after);
+    memset(m.digest, 0xA5, sizeof m.digest);
+}
+
+/* An output of another size: 8, but 1 where the hasher is not well formed. */
+static void sizes(const char *name, uint32_t (*call)(void))
+{
+    for (size_t n = 0; n <= 21; n++) {
+        if (n == 20) continue;
+        for (int formed = 0; formed < 2; formed++) {
+            filled();
+            m.twenty = n;
+            m.state[0] = formed ? 0 : 64;
+            m.table[0] = 32;
+            refused(name, call, formed ? 8 : 1);
+        }
+    }
+}
+
+/* A new hasher, of all flags, over memory that holds something else. */
+static void beginnings(void)
+{
+    static const uint32_t start[5] = { 0x67452301, 0xefcdab89, 0x98badcfe, 0x10325476, 0xc3d2e1f0 };
+    kept("new", new_hasher);
+    lengths("new", new_hasher, &m.five);
+    lengths("new", new_hasher, &m.sixty_four);
+    lengths("new", new_hasher, &m.four);
+    for (int bit = 4; bit < 64; bit++) {
+        fresh();
+        m.flags = (uint64_t)1 << bit;
+        broken("new", new_hasher);
+    }
+    for (uint64_t flags = 0; flags < 16; flags++) {
+        struct lent want;
+        fresh();
+        m.flags = flags;
+        want = m;
+        memcpy(want.words, start, sizeof start);
+        want.state[3] = flags;
+        memset(m.words, 0xA5, 20);
+        memset(m.pending, 0xA5, 64);
+        memset(m.state, 0xA5, 32);
+        tried++;
+        if (new_hasher() == 0 && memcmp(&want, &m, sizeof m) == 0) continue;
+        wrong++;
+        printf("  new did not begin with the flags %d\n", (int)flags);
+    }
+}
+
+static void refusals(void)
+{
+    static const struct { const char *name; uint32_t (*call)(void); int hasher; } calls[] = {
+        { "one_block", one_block, 0 }, { "update", update, 1 }, { "finish", finish, 1 },
+        { "finish_and_reset", finish_and_reset, 1 }, { "one_shot", one_shot, 0 }, { "table_fault", table_fault, 0 } };
+    for (size_t i = 0; i < sizeof calls / sizeof *calls; i++) {
+        filled();
+        m.table[0] = 32;
+        refused(calls[i].name, calls[i].call, 3);
+        filled();
+        m.state[0] = 64;
+        if (calls[i].hasher) refused(calls[i].name, calls[i].call, 1);
+    }
+    filled();
+    m.state[0] = 64;
+    refused("reset", reset, 1);
+    sizes("finish", finish);
+    sizes("finish_and_reset", finish_and_reset);
+}
+
 static void hasher(const char *name, uint32_t (*call)(void))
 {
     lengths(name, call, &m.five);
@@ -97,11 +189,50 @@ static void hasher(const char *name, uint32_t (*call)(void))
     }
 }
 
+static void expect(const char *name, uint64_t said, uint64_t wanted)
+{
+    tried++;
+    if (said == wanted) return;
+    wrong++;
+    printf("  %s gave %d, not %d\n", name, (int)said, (int)wanted);
+}
+
+/* The functions over structs, with null for what is empty. */
+static void structs(void)
+{
+    static const uint8_t of_nothing[20] = { 0xda, 0x39, 0xa3, 0xee, 0x5e, 0x6b, 0x4b, 0x0d, 0x32, 0x55,
+        0xbf, 0xef, 0x95, 0x60, 0x18, 0x90, 0xaf, 0xd8, 0x07, 0x09 };
+    const struct purserumble_loan loan = { m.table, 82, NULL, 0 };
+    struct purserumble_hasher h;
+    fresh();
+    expect("hasher_new", purserumble_hasher_new(&h, 16), 255);
+    expect("hasher_new", purserumble_hasher_new(&h, 0), 0);
+    expect("hasher_update", purserumble_hasher_update(&h, NULL, 0, NULL, m.answer), 0);
+    expect("hasher_finish", purserumble_hasher_finish(&h, m.digest, NULL, m.answer), 0);
+    expect("hasher_finish's verdict", m.answer[0], PURSERUMBLE_OK);
+    expect("hasher_finish's digest", memcmp(m.digest, of_nothing, 20) != 0, 0);
+    expect("hasher_update", purserumble_hasher_update(&h, "x", 1, NULL, m.answer), 0);
+    expect("hasher_finish_and_reset", purserumble_hasher_finish_and_reset(&h, m.digest, NULL, m.answer), 0);
+    expect("hasher_finish_and_reset's digest", memcmp(m.digest, of_nothing, 20) != 0, 1);
+    expect("hasher_reset", purserumble_hasher_reset(&h), 0);
+    expect("message_digest", purserumble_message_digest(NULL, 0, m.digest, &loan, m.answer), 6);
+    expect("block_words", purserumble_block_words(h.words, m.block, NULL, 1, 1, 0, m.after, m.answer), 2);
+    expect("block_words", purserumble_block_words(h.words, m.block, &loan, 1, 1, 0, m.after, m.answer), 0);
+    expect("block_words's mark", m.answer[0], 1);
+    expect("loan_fault", purserumble_loan_fault(NULL, m.answer), 2);
+    expect("loan_fault", purserumble_loan_fault(&loan, m.answer), 0);
+    expect("sheet_lookup", purserumble_sheet_lookup(NULL, 0, NULL, 0, m.answer), 8);
+    expect("sheet_lookup", purserumble_sheet_lookup(m.sheet, 32, m.code, 12, m.answer), 0);
+    expect("sheet_lookup's offset", m.answer[0], 12);
+    expect("sheet_compare", purserumble_sheet_compare(NULL, 0, m.code, 12, PURSERUMBLE_OK, m.digest, m.answer), 0);
+    expect("sheet_compare's answer", m.answer[0], PURSERUMBLE_ABSENT);
+}
+
 int main(void)
 {
     static const struct { const char *name; uint32_t (*call)(void); int hasher, digest, two; } calls[] = {
         { "one_block", one_block, 0, 0, 0 }, { "update", update, 1, 0, 1 }, { "reset", reset, 1, 0, 1 },
-        { "finish", finish, 1, 1, 1 }, { "finish_and_reset", finish_and_reset, 1, 0, 1 }, { "one_shot", one_shot, 0, 1, 1 },
+        { "finish", finish, 1, 0, 1 }, { "finish_and_reset", finish_and_reset, 1, 0, 1 }, { "one_shot", one_shot, 0, 1, 1 },
         { "table_fault", table_fault, 0, 0, 1 }, { "lookup", lookup, 0, 0, 1 }, { "compare", compare, 0, 1, 1 } };
     for (size_t i = 0; i < sizeof calls / sizeof *calls; i++) {
         kept(calls[i].name, calls[i].call);
@@ -116,6 +247,9 @@ int main(void)
     fresh();
     m.verdict = 0;
     broken("compare", compare);
+    refusals();
+    beginnings();
+    structs();
     printf("%ld comparisons, %ld differences\n", tried, wrong);
     return wrong != 0;
 }

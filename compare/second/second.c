@@ -1,10 +1,10 @@
 /* The second program: SHA-1 with collision detection, the hasher and the barcode sheet, after FIPS 180-4 and the scope
- * paper, as the calls of proved.h. It is made to be plain, and to go another way than the Rust: a table of
+ * paper, as the calls of purserumble.h. It is made to be plain, and to go another way than the Rust: a table of
  * differences is tried by walking the block forward to the test step, undoing the sibling step by step to its start,
  * and compressing the sibling from there through all 80 steps. Nothing is saved between records, and a message goes
  * in byte by byte.
  */
-#include "../proved.h"
+#include "../../include/purserumble.h"
 #include <string.h>
 
 enum { RECORD = 82, MOST_RECORDS = 32 };
@@ -267,7 +267,6 @@ uint32_t purserumble_one_block(const uint32_t *words, size_t five, const uint8_t
     uint64_t place = 0;
     uint32_t refusal = block_len != 64 ? 8 : table_fault(table, table_len, &place);
     struct found found = { 0, 0, 0 };
-    memset(after, 0, 20);
     if (!refusal) {
         memcpy(after, words, 20);
         found = checked_block(after, block, table, table_len, mask, mitigate, reduced);
@@ -277,6 +276,15 @@ uint32_t purserumble_one_block(const uint32_t *words, size_t five, const uint8_t
     answer[2] = found.tried;
     answer[3] = place;
     return refusal;
+}
+
+uint32_t purserumble_new(uint64_t flags, uint32_t *words, size_t five, uint8_t *pending, size_t sixty_four,
+    uint64_t *state, size_t four)
+{
+    if (five != 5 || sixty_four != 64 || four != 4 || flags > 15) return BROKEN;
+    struct hasher h = fresh(flags);
+    store(&h, words, pending, state);
+    return 0;
 }
 
 uint32_t purserumble_update(uint32_t *words, size_t five, uint8_t *pending, size_t sixty_four,
@@ -309,15 +317,14 @@ uint32_t purserumble_reset(uint32_t *words, size_t five, uint8_t *pending, size_
 }
 
 uint32_t purserumble_finish(const uint32_t *words, size_t five, const uint8_t *pending, size_t sixty_four,
-    const uint64_t *state, size_t four, uint8_t *digest, size_t twenty, const uint32_t *table, size_t table_len,
+    const uint64_t *state, size_t four, uint8_t *digest, size_t digest_len, const uint32_t *table, size_t table_len,
     const uint32_t *masks, size_t masks_len, uint64_t *answer, size_t two)
 {
-    if (!hasher_fits(five, sixty_four, state, four) || twenty != 20 || two != 2) return BROKEN;
+    if (!hasher_fits(five, sixty_four, state, four) || two != 2) return BROKEN;
     struct hasher h = hasher_of(words, pending, state);
     answer[0] = 0;
-    uint32_t refusal = finish_refusal(&h, 20, table, table_len, masks_len, &answer[1]);
-    if (refusal) memset(digest, 0, twenty);
-    else answer[0] = finished(h, digest, table, table_len, masks);
+    uint32_t refusal = finish_refusal(&h, digest_len, table, table_len, masks_len, &answer[1]);
+    if (!refusal) answer[0] = finished(h, digest, table, table_len, masks);
     return refusal;
 }
 
@@ -344,7 +351,6 @@ uint32_t purserumble_one_shot(const uint8_t *bytes, size_t bytes_len, uint8_t *d
     struct hasher h = fresh(1 | 2 | 4);
     uint32_t refusal;
     answer[0] = answer[1] = 0;
-    memset(digest, 0, twenty);
     /* The message, the byte 80 and the 8 bytes of the length, rounded up to whole blocks. */
     if (bytes_len > most_bytes) refusal = 7;
     else refusal = lent_refusal(&h, ((uint64_t)bytes_len + 1 + 8 + 63) / 64, table, table_len, masks_len, &answer[1]);

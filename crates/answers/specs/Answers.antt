@@ -3,7 +3,7 @@ use mathlib.Core.Bool.{Bool}
 use mathlib.Core.List.{List, [], _∷_, _++_}
 use Prim.Native.Nat.{ℕ}
 use Rattle.word.specs.Choice.{pick}
-use Rattle.refusal.specs.Refusal.{numberOf, placeOf}
+use Rattle.refusal.specs.Refusal.{numberOf, placeOf, isNothing}
 use Rattle.refusal.specs.declared.Refusal.{Refusal}
 use Rattle.detect.specs.declared.OneBlock.{OneBlock}
 use Rattle.hasher.specs.declared.Updated.{Updated}
@@ -34,6 +34,10 @@ brokenAgreement = 255
 abbrev pub guarded : Bool → Left → List (List ℕ) → Left
 guarded kept done before = pick kept done (left brokenAgreement before)
 
+-- what a call gives, or where it is refused what was there
+abbrev pub unlessRefused : Refusal → List ℕ → List ℕ → List ℕ
+unlessRefused r given before = pick (isNothing r) given before
+
 -- the two numbers of an answer: what the call says, and the place of the refused record
 abbrev pub answerPair : ℕ → Refusal → List ℕ
 answerPair says r = says ∷ placeOf r ∷ []
@@ -54,19 +58,23 @@ comparisonIn (Said Differs) = 2
 comparisonIn (Said Absent) = 3
 comparisonIn (Compared.Refused r) = 0
 
--- what one block leaves: the new words; mark, place, tried and the refused record's place
-abbrev pub blockLeft : OneBlock → Left
-blockLeft o =
+-- what one block leaves where the words before were: the new words, or on a refusal those; mark, place, tried and the refused record's place
+abbrev pub blockLeft : OneBlock → List ℕ → Left
+blockLeft o before =
     left (numberOf (o .refusal))
-    (o .words ∷ (bitOf (o .found .mark) ∷ o .found .place ∷ o .found .tried ∷ placeOf (o .refusal) ∷ []) ∷ [])
+    (unlessRefused (o .refusal) (o .words) before ∷ (bitOf (o .found .mark) ∷ o .found .place ∷ o .found .tried ∷ placeOf (o .refusal) ∷ []) ∷ [])
 
 -- what an update or a reset leaves: the hasher, and the refused record's place
 abbrev pub updatedLeft : Updated → Left
 updatedLeft u = left (numberOf (u .refusal)) (slicesOf (u .hasher) ++ answerPair 0 (u .refusal) ∷ [])
 
--- what a digest's call leaves: the digest, and the outcome
-abbrev pub digestLeft : Outcome → List ℕ → Left
-digestLeft o digest = left (numberOf (outcomeRefusal o)) (digest ∷ outcomeAnswer o ∷ [])
+-- what a call leaves that has an output and an outcome
+abbrev pub outcomeLeft : Outcome → List ℕ → Left
+outcomeLeft o out = left (numberOf (outcomeRefusal o)) (out ∷ outcomeAnswer o ∷ [])
+
+-- what the one-shot form leaves where the bytes before were: the digest, or on a refusal those; and the outcome
+abbrev pub digestLeft : Outcome → List ℕ → List ℕ → Left
+digestLeft o digest before = outcomeLeft o (unlessRefused (outcomeRefusal o) digest before)
 
 -- what a finish-and-reset leaves, of a hasher and an outcome, around the output that it wrote
 abbrev pub finishResetLeft : FinishedReset → List ℕ → Left

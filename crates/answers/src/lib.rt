@@ -6,7 +6,7 @@ ghost use Rattle.refusal.specs.Refusal.{numberOf};
 ghost use Rattle.verdict.specs.Verdict.{digestSize};
 ghost use Rattle.finish.specs.Finish.{outcomeRefusal};
 ghost use Rattle.sheet.specs.Compare.{comparedNumber};
-ghost use Rattle.answers.specs.Answers.{left, answerPair, verdictIn, outcomeAnswer, comparisonIn, blockLeft, updatedLeft, digestLeft, finishResetLeft, comparedLeft};
+ghost use Rattle.answers.specs.Answers.{left, unlessRefused, answerPair, verdictIn, outcomeAnswer, comparisonIn, blockLeft, updatedLeft, digestLeft, finishResetLeft, comparedLeft};
 use detect::OneBlock;
 use finish::FinishedReset;
 use finish::Outcome;
@@ -20,6 +20,7 @@ use layout::put_two;
 use layout::put_words;
 use layout::verdict_number;
 use refusal::Refusal;
+use refusal::is_nothing;
 use refusal::number;
 use refusal::place;
 use sheet::Compared;
@@ -86,15 +87,37 @@ pub fn put_outcome(answer: &mut [u64], o: Outcome) -> u32
     say(answer, verdict_in(o), refusal_in(o))
 }
 
-// What one block leaves: the new words; its mark, place, tried and the refused record's place.
+// The words that a call gives; where it is refused, nothing is written.
+fn give_words(out: &mut [u32], r: Refusal, w: [u32; 5])
+    requires { ⌜ length (now out) ≡ 5 ⌝ }
+    ensures { λ n. ⌜ now (out .exit) ≡ unlessRefused r w (now (out .entry)) ⌝ }
+{
+    if !is_nothing(r) {
+        return;
+    }
+    put_words(out, w);
+}
+
+// The digest that a call gives; where it is refused, nothing is written.
+fn give_digest(out: &mut [u8], r: Refusal, d: [u8; DIGEST_SIZE])
+    requires { ⌜ length (now out) ≡ digestSize ⌝ }
+    ensures { λ n. ⌜ now (out .exit) ≡ unlessRefused r d (now (out .entry)) ⌝ }
+{
+    if !is_nothing(r) {
+        return;
+    }
+    put_digest(out, d);
+}
+
+// What one block leaves: the new words, where it is not refused; its mark, place, tried and the refused record's place.
 pub fn leave_block(after: &mut [u32], answer: &mut [u64], o: OneBlock) -> u32
     requires { ⌜ (length (now after) ≡ 5) × (length (now answer) ≡ 4) ⌝ }
-    ensures { λ r. ⌜ left r (now (after .exit) ∷ now (answer .exit) ∷ []) ≡ blockLeft o ⌝ }
+    ensures { λ r. ⌜ left r (now (after .exit) ∷ now (answer .exit) ∷ []) ≡ blockLeft o (now (after .entry)) ⌝ }
 {
     let w = o.words;
     let r = o.refusal;
     let found = o.found;
-    put_words(after, w);
+    give_words(after, r, w);
     put_four(
         answer,
         bit_of(found.mark),
@@ -122,12 +145,12 @@ pub fn leave_updated(
     say(answer, 0, r)
 }
 
-// What a finish or the one-shot form leaves: the digest and an answer.
+// What the one-shot form leaves: the digest, where it is not refused, and an answer.
 pub fn leave_digest(digest: &mut [u8], answer: &mut [u64], d: [u8; DIGEST_SIZE], o: Outcome) -> u32
     requires { ⌜ (length (now digest) ≡ digestSize) × (length (now answer) ≡ 2) ⌝ }
-    ensures { λ r. ⌜ left r (now (digest .exit) ∷ now (answer .exit) ∷ []) ≡ digestLeft o d ⌝ }
+    ensures { λ r. ⌜ left r (now (digest .exit) ∷ now (answer .exit) ∷ []) ≡ digestLeft o d (now (digest .entry)) ⌝ }
 {
-    put_digest(digest, d);
+    give_digest(digest, refusal_in(o), d);
     put_outcome(answer, o)
 }
 

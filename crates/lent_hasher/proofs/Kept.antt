@@ -1,13 +1,11 @@
--- A call that gives back a number other than 0 leaves the hasher's slices, and the output of finish-and-reset, as they were. Assumes nothing.
+-- A call on a hasher that gives back a number other than 0 writes its answer alone: the hasher's slices and the output are as they were. Assumes nothing.
 use mathlib.Core.Path.{_≡_, refl, ap, _∙_}
 use mathlib.Core.Bool.{Bool, true, false, _&&_, true≢false}
 use mathlib.Core.List.{List, [], _∷_, _++_}
 use Prim.Native.Nat.{ℕ, _<_}
 use native.Mathlib.Nat.{lt-irrefl}
-use native.Mathlib.Omega.{arith}
 use lib.Dec.{eqb}
 use lib.ListN.{length}
-use borrow.Author.Tests.{ne-eqb}
 use Rattle.word.specs.Choice.{pick}
 use Rattle.word.proofs.Tests.{both-true}
 use Rattle.refusal.specs.Refusal.{numberOf, isNothing}
@@ -21,25 +19,20 @@ use Rattle.hasher.specs.declared.Hasher.{Hasher}
 use Rattle.hasher.specs.declared.Updated.{Updated}
 use Rattle.finish.specs.Finish.{lastChain, finishRefusal, outcomeOf, outcomeRefusal, digestOr, finishedReset, writtenOut}
 use Rattle.finish.specs.declared.Outcome.the-variants.{Refused}
-use Rattle.layout.specs.Layout.{hasherIn, slicesOf, hasherFits}
+use Rattle.layout.specs.Layout.{flagsIn, hasherIn, slicesOf, hasherFits, newFits}
 use Rattle.layout.proofs.ReadBack.{slices-back}
-use Rattle.answers.specs.Answers.{Left, left, guarded, answerPair, outcomeAnswer, updatedLeft}
-use Rattle.lent_hasher.specs.LentHasher.{updateCall, resetCall, finishResetCall}
-
--- what is left has the slices xs first
-abbrev Keeps : List (List ℕ) → Left → Type 0
-Keeps xs l = (ys : List (List ℕ)) × (l .slices ≡ xs ++ ys)
-
--- a call whose work, where the agreement is kept and the number is not 0, keeps the slices xs keeps them in any case
-guarded-keeps : (fits : Bool) (done : Left) (xs ys : List (List ℕ)) → (fits ≡ true → 0 < done .number → Keeps xs done)
-    → 0 < guarded fits done (xs ++ ys) .number → Keeps xs (guarded fits done (xs ++ ys))
-guarded-keeps true done xs ys k n = k refl n
-guarded-keeps false done xs ys k n = (ys, refl)
-
-some-refusal : (r : Refusal) → 0 < numberOf r → isNothing r ≡ false
-some-refusal r n = ne-eqb (numberOf r) 0 (λ e. absurd (omega (arith, e)))
+use Rattle.answers.specs.Answers.{Left, left, answerPair, outcomeAnswer, outcomeLeft, updatedLeft}
+use Rattle.answers.proofs.Keeps.{Keeps, guarded-keeps, some-refusal}
+use Rattle.lent_hasher.specs.LentHasher.{newCall, updateCall, resetCall, finishCall, finishResetCall}
 
 module _ (w p s : List ℕ) where
+  -- A new hasher is written whole, or where the number is not 0 nothing is.
+  pub new-keeps : (flags : ℕ) → 0 < newCall flags w p s .number → Keeps (w ∷ p ∷ s ∷ []) (newCall flags w p s)
+  unfolding newCall
+  new-keeps flags =
+      guarded-keeps (newFits (length w) (length p) (length s) flags) (left 0 (slicesOf (freshOf (flagsIn flags)))) (w ∷ p ∷ s ∷ []) []
+      (λ e n. absurd (lt-irrefl 0 n))
+
   -- an update that is refused hands its hasher back, and a reset too
   updated-keeps : hasherFits (length w) (length p) s ≡ true → (u : Updated) → (isNothing (u .refusal) ≡ false → u .hasher ≡ hasherIn w p s)
       → 0 < updatedLeft u .number → Keeps (w ∷ p ∷ s ∷ []) (updatedLeft u)
@@ -70,6 +63,23 @@ module _ (w p s : List ℕ) where
       let h = hasherIn w p s in
       guarded-keeps (hasherFits (length w) (length p) s && eqb (length answer) 2) (updatedLeft (resetOf h)) (w ∷ p ∷ s ∷ []) (answer ∷ [])
       (λ e. updated-keeps (both-true (hasherFits (length w) (length p) s) (eqb (length answer) 2) e .0) (resetOf h) (reset-same (wellFormed h)))
+
+  -- what a finish leaves, of a refusal r and the chain c
+  output-keeps : (r : Refusal) (b : Bool) → isNothing r ≡ b → (c : Chain) (m : Bool) (out : List ℕ)
+      → 0 < outcomeLeft (outcomeOf r c m) (digestOr r c out) .number → Keeps (out ∷ []) (outcomeLeft (outcomeOf r c m) (digestOr r c out))
+  output-keeps r true i c m out n = absurd (lt-irrefl 0 (rw i at n))
+  output-keeps r false i c m out n = (outcomeAnswer (outcomeOf r c m) ∷ [], rw i)
+
+  -- So with a finish, and the bytes lent for its digest; the hasher is lent to it for reading only.
+  pub finish-keeps : (digest : List ℕ) (l : Loan) (answer : List ℕ) → 0 < finishCall w p s digest l answer .number
+      → Keeps (digest ∷ []) (finishCall w p s digest l answer)
+  unfolding finishCall finishedReset writtenOut
+  finish-keeps digest l answer =
+      let h = hasherIn w p s in
+      let r = finishRefusal h (length digest) l in
+      let c = lastChain h l in
+      guarded-keeps (hasherFits (length w) (length p) s && eqb (length answer) 2) (outcomeLeft (outcomeOf r c (h .flags .mitigate)) (digestOr r c digest)) (digest ∷ []) (answer ∷ [])
+      (λ e. output-keeps r (isNothing r) refl c (h .flags .mitigate) digest)
 
   -- what a finish-and-reset leaves, of a refusal r, the chain c and the hasher g that it would hand back
   abbrev leftBy : Refusal → Chain → Bool → Hasher → List ℕ → Left

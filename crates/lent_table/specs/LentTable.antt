@@ -16,14 +16,14 @@ use Rattle.answers.specs.Answers.{Left, guarded, blockLeft, digestLeft, refusal
 unfoldable pub blockCall : List ℕ → List ℕ → List ℕ → ℕ → Mode → List ℕ → List ℕ → Left
 blockCall words block table mask mode after answer =
     guarded (eqb (length words) 5 && (eqb (length after) 5 && eqb (length answer) 4))
-    (blockLeft (oneBlockOf words block table mask mode))
+    (blockLeft (oneBlockOf words block table mask mode) after)
     (after ∷ answer ∷ [])
 
 -- the call of the one-shot form
 unfoldable pub oneShotCall : List ℕ → List ℕ → Loan → List ℕ → Left
 oneShotCall bytes digest l answer =
     let d = digested bytes l in
-    guarded (eqb (length digest) digestSize && eqb (length answer) 2) (digestLeft (d .outcome) (d .digest)) (digest ∷ answer ∷ [])
+    guarded (eqb (length digest) digestSize && eqb (length answer) 2) (digestLeft (d .outcome) (d .digest) digest) (digest ∷ answer ∷ [])
 
 -- the call of a table check
 unfoldable pub tableCall : List ℕ → List ℕ → Left

@@ -3,8 +3,8 @@ use borrow.Author.Needs.{needs}
 use Rattle.answers.proofs.leave_block.Statement.{statement}
 use Rattle.answers.proofs.leave_block.Tie as tie
 
-put-words-requires : tie.Need-put-words-requires
-put-words-requires c κs = search needs
+give-words-requires : tie.Need-give-words-requires
+give-words-requires c κs = search needs
 
 bit-of-requires : tie.Need-bit-of-requires
 bit-of-requires c κs = search needs
@@ -33,14 +33,14 @@ returns c =
       p .put-four .ensures,
       p .before .place .ensures,
       p .before .before .bit-of .ensures,
-      w .put-words .ensures,
+      w .give-words .ensures,
     )
 
 pub leave-block-spec : {M : Type 1} → statement M
 leave-block-spec =
     tie.close
     (tie.spec
-    put-words-requires
+    give-words-requires
     bit-of-requires
     place-requires
     put-four-requires

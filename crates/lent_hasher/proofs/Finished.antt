@@ -12,7 +12,7 @@ use Rattle.stream.specs.declared.Chain.{Chain}
 use Rattle.stream.specs.Loan.{Loan}
 use Rattle.finish.specs.Finish.{lastChain, finishRefusal, outcomeOf, outcomeRefusal, digestOr, finished, finishedReset, writtenOut}
 use Rattle.layout.specs.Layout.{hasherIn, hasherFits}
-use Rattle.answers.specs.Answers.{Left, guarded, unlessRefused, outcomeLeft, digestLeft}
+use Rattle.answers.specs.Answers.{guarded, unlessRefused, outcomeLeft, digestLeft}
 use Rattle.lent_hasher.specs.LentHasher.{finishCall}
 
 -- what stands in the output is the digest that a finish gives, or on a refusal what was there

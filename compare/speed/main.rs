@@ -90,15 +90,15 @@ macro_rules! checked {
 
 fn measure(what: &str, bytes: &[u8], rounds: usize, sides: &[Side]) {
     let mut best = vec![f64::INFINITY; sides.len()];
-    let mut digests = vec![[0; 20]; sides.len()];
     for _ in 0..rounds {
+        let mut digests = vec![];
         for (i, (_, side)) in sides.iter().enumerate() {
             let start = now();
-            digests[i] = side(bytes);
+            digests.push(side(bytes));
             best[i] = best[i].min(now() - start);
         }
+        assert!(digests.iter().all(|d| *d == digests[0]), "the digests differ");
     }
-    assert!(digests.iter().all(|d| *d == digests[0]), "the digests differ");
     println!("{what}");
     for (i, (name, _)) in sides.iter().enumerate() {
         let mib = bytes.len() as f64 / 1048576.0;

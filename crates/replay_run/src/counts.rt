@@ -3,24 +3,27 @@ ghost use mathlib.Core.Path.{_≡_};
 ghost use Prim.Native.Nat.{_<_};
 ghost use lib.ListN.{length};
 use crate::kind::Kind;
+use crate::kind::is_refused;
 use printing::say;
 use printing::say_decimal;
 
-// A count for each kind. What differs counts as what can't be read, which has the last place.
-const KINDS: usize = 9;
+// A count for each kind, and one for refusals of every kind. What differs counts as what can't be read, which has the last place.
+const KINDS: usize = 11;
 
 pub struct Counts {
     pub of: [u64; KINDS],
 }
 
-const LAST: usize = 8;
+const REFUSED: usize = 9;
+
+const LAST: usize = 10;
 
 // How many differences are named.
 const NAMED: u64 = 20;
 
 // The place of a kind's count.
-fn count_place(k: Kind) -> usize
-    ensures { λ r. ⌜ r < 9 ⌝ }
+fn kind_place(k: Kind) -> usize
+    ensures { λ r. ⌜ r < 11 ⌝ }
 {
     match k {
         Kind::Comment => 0,
@@ -30,9 +33,20 @@ fn count_place(k: Kind) -> usize
         Kind::Update => 4,
         Kind::Finish => 5,
         Kind::Close => 6,
-        Kind::Reset => 7,
+        Kind::OneShot => 7,
+        Kind::Reset => 8,
         Kind::Unread => LAST,
     }
+}
+
+// The place of a line's count.
+fn count_place(k: Kind, line: &[u8]) -> usize
+    ensures { λ r. ⌜ r < 11 ⌝ }
+{
+    if is_refused(line) {
+        return REFUSED;
+    }
+    kind_place(k)
 }
 
 // One more. No text is so long that this wraps.
@@ -46,7 +60,7 @@ pub(crate) fn none() -> Counts {
 }
 
 fn with_more(c: Counts, place: usize) -> Counts
-    requires { ⌜ place < 9 ⌝ }
+    requires { ⌜ place < 11 ⌝ }
 {
     let mut of = c.of;
     of[place] = more(of[place]);
@@ -65,18 +79,18 @@ fn differed(c: Counts, n: u64) -> Counts {
 }
 
 // The counts with line n.
-pub(crate) fn counted(c: Counts, n: u64, k: Kind, right: bool) -> Counts {
+pub(crate) fn counted(c: Counts, n: u64, k: Kind, line: &[u8], right: bool) -> Counts {
     if right {
-        return with_more(c, count_place(k));
+        return with_more(c, count_place(k, line));
     }
     differed(c, n)
 }
 
 // The name of each place, 12 bytes long.
-fn names() -> [u8; 108]
-    ensures { λ r. ⌜ 108 ≡ length r ⌝ }
+fn names() -> [u8; 132]
+    ensures { λ r. ⌜ 132 ≡ length r ⌝ }
 {
-    *b"comments    tables      blocks      hashers     updates     finishes    closings    resets      differences "
+    *b"comments    tables      blocks      hashers     updates     finishes    closings    one-shots   resets      refusals    differences "
 }
 
 pub(crate) fn say_counts(c: Counts) {

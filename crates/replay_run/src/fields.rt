@@ -1,4 +1,5 @@
 // The fields of a line, read.
+ghost use Prim.Native.Nat.{_<_};
 use crate::hex::RUN_BYTES;
 use crate::hex::Run;
 use crate::hex::run_of;
@@ -6,6 +7,9 @@ use crate::hex::small_of;
 use cases::field;
 use cases::front;
 use cases::front_bytes;
+use refusal::Refusal;
+use refusal::number;
+use refusal::place;
 use step::regs_of;
 use step::same_regs;
 use table_file::MOST_WORDS;
@@ -72,11 +76,37 @@ pub(crate) fn is_mark(line: &[u8], i: usize, mark: bool) -> bool {
     small_at(line, i) == 0
 }
 
+// Whether two fields are a refusal's number and its place; 0 for a call that is not refused, which no line has.
+pub(crate) fn is_refusal(line: &[u8], i: usize, r: Refusal) -> bool
+    requires { ⌜ i < 16 ⌝ }
+{
+    if small_at(line, i) == 0 {
+        return false;
+    }
+    if small_at(line, i) != number(r) as usize {
+        return false;
+    }
+    small_at(line, i + 1) == place(r)
+}
+
 // Whether a field is the run of these bytes.
 pub(crate) fn is_bytes(line: &[u8], i: usize, bytes: &[u8; 20]) -> bool {
     let r = run_at(line, i);
     let run = r.bytes;
     check::same(bytes_front(&run, r.len), bytes)
+}
+
+// Whether a field is the run of the pending bytes up to the fill.
+pub(crate) fn is_pending(line: &[u8], i: usize, pending: &[u8; 64], fill: usize) -> bool {
+    let r = run_at(line, i);
+    let run = r.bytes;
+    if !r.good {
+        return false;
+    }
+    if r.len != fill {
+        return false;
+    }
+    check::same(bytes_front(&run, r.len), front_bytes(pending, fill))
 }
 
 // How many words a field has.

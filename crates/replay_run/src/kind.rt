@@ -1,4 +1,5 @@
 // What a line of the list is.
+ghost use Prim.Native.Nat.{_<_};
 use cases::spaces;
 
 pub enum Kind {
@@ -9,37 +10,80 @@ pub enum Kind {
     Update,
     Finish,
     Close,
+    OneShot,
     Reset,
     // What can't be read.
     Unread,
 }
 
+// A capital letter stands for the same, refused; a fresh hasher and its reset never are.
 fn kind_named(letter: u8) -> Kind {
     match letter {
-        b't' => Kind::Table,
-        b'b' => Kind::Block,
+        b't' | b'T' => Kind::Table,
+        b'b' | b'B' => Kind::Block,
         b'n' => Kind::Fresh,
-        b'u' => Kind::Update,
-        b'f' => Kind::Finish,
-        b'r' => Kind::Close,
+        b'u' | b'U' => Kind::Update,
+        b'f' | b'F' => Kind::Finish,
+        b'r' | b'R' => Kind::Close,
+        b'o' | b'O' => Kind::OneShot,
         b'z' => Kind::Reset,
         _ => Kind::Unread,
     }
 }
 
-// How many fields stand after the letter.
-fn fields_of(k: Kind) -> usize {
+// Whether a line says that what it has is refused.
+pub(crate) fn is_refused(line: &[u8]) -> bool {
+    if line.len() == 0 {
+        return false;
+    }
+    if line[0] < b'A' {
+        return false;
+    }
+    line[0] <= b'Z'
+}
+
+// How many fields stand after the letter for what is given.
+fn given_fields(k: Kind) -> usize
+    ensures { λ r. ⌜ r < 5 ⌝ }
+{
     match k {
         Kind::Comment => 0,
         Kind::Table => 1,
-        Kind::Block => 8,
+        Kind::Block => 4,
         Kind::Fresh => 1,
-        Kind::Update => 5,
-        Kind::Finish => 3,
-        Kind::Close => 3,
+        Kind::Update => 2,
+        Kind::Finish => 1,
+        Kind::Close => 1,
+        Kind::OneShot => 2,
         Kind::Reset => 0,
         Kind::Unread => 0,
     }
+}
+
+// How many stand after those for the answer.
+fn answer_fields(k: Kind) -> usize
+    ensures { λ r. ⌜ r < 5 ⌝ }
+{
+    match k {
+        Kind::Comment => 0,
+        Kind::Table => 0,
+        Kind::Block => 4,
+        Kind::Fresh => 0,
+        Kind::Update => 4,
+        Kind::Finish => 2,
+        Kind::Close => 2,
+        Kind::OneShot => 2,
+        Kind::Reset => 0,
+        Kind::Unread => 0,
+    }
+}
+
+// A refusal has two in place of the answer's: its number and its place.
+fn fields_of(k: Kind, refused: bool) -> usize {
+    if refused {
+        return given_fields(k) + 2;
+    }
+    given_fields(k) + answer_fields(k)
 }
 
 // Whether a line's first byte is all of it, or a space stands after it.
@@ -51,8 +95,8 @@ fn is_alone(line: &[u8]) -> bool {
 }
 
 // A kind that has its number of fields.
-fn with_fields(k: Kind, n: usize) -> Kind {
-    if n == fields_of(k) {
+fn with_fields(k: Kind, refused: bool, n: usize) -> Kind {
+    if n == fields_of(k, refused) {
         return k;
     }
     Kind::Unread
@@ -67,7 +111,7 @@ pub(crate) fn kind_of(line: &[u8]) -> Kind {
         return Kind::Comment;
     }
     if is_alone(line) {
-        return with_fields(kind_named(line[0]), spaces(line));
+        return with_fields(kind_named(line[0]), is_refused(line), spaces(line));
     }
     Kind::Unread
 }

@@ -4,9 +4,11 @@ use crate::fields::first_at;
 use crate::fields::five_at;
 use crate::fields::is_five;
 use crate::fields::is_mark;
+use crate::fields::is_refusal;
 use crate::fields::run_at;
 use crate::fields::small_at;
 use crate::fields::word_count;
+use crate::kind::is_refused;
 use detect::Mode;
 use detect::OneBlock;
 use detect::one_block;
@@ -25,6 +27,9 @@ fn answered(b: OneBlock, line: &[u8]) -> bool {
     let refusal = b.refusal;
     let words = b.words;
     let found = b.found;
+    if is_refused(line) {
+        return is_refusal(line, 5, refusal);
+    }
     if !is_nothing(refusal) {
         return false;
     }
@@ -58,6 +63,9 @@ pub(crate) fn block(line: &[u8], table: &[u32]) -> bool {
     }
     let message = run_at(line, 2);
     let bytes = message.bytes;
+    if !message.good {
+        return false;
+    }
     let b = one_block(
         five_at(line, 1),
         bytes_front(&bytes, message.len),

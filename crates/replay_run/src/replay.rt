@@ -4,13 +4,16 @@ use crate::counts::counted;
 use crate::counts::more;
 use crate::counts::none;
 use crate::fields::Words;
+use crate::fields::is_refusal;
 use crate::fields::no_words;
 use crate::fields::words_at;
 use crate::fields::words_front;
 use crate::kind::Kind;
+use crate::kind::is_refused;
 use crate::kind::kind_of;
 use crate::one::block;
 use crate::session::Took;
+use crate::session::at_once;
 use crate::session::closed;
 use crate::session::finished;
 use crate::session::fresh;
@@ -34,9 +37,23 @@ fn lent_after(w: Words, k: Kind, line: &[u8]) -> Words {
         | Kind::Update
         | Kind::Finish
         | Kind::Close
+        | Kind::OneShot
         | Kind::Reset
         | Kind::Unread => w,
     }
+}
+
+// Whether what is wrong with a table is the line's.
+fn is_checked(line: &[u8], table: &[u32]) -> bool {
+    let lent = words_at(line, 1);
+    let r = table_fault(table);
+    if !lent.good {
+        return false;
+    }
+    if is_refused(line) {
+        return is_refusal(line, 2, r);
+    }
+    is_nothing(r)
 }
 
 // What stands where a line has no call of a hasher.
@@ -47,12 +64,13 @@ fn beside(h: Hasher, right: bool) -> Took {
 fn took(k: Kind, h: Hasher, line: &[u8], table: &[u32]) -> Took {
     match k {
         Kind::Comment => beside(h, true),
-        Kind::Table => beside(h, is_nothing(table_fault(table))),
+        Kind::Table => beside(h, is_checked(line, table)),
         Kind::Block => beside(h, block(line, table)),
         Kind::Fresh => fresh(h, line),
         Kind::Update => updated(h, line, table),
         Kind::Finish => finished(h, line, table),
         Kind::Close => closed(h, line, table),
+        Kind::OneShot => at_once(h, line, table),
         Kind::Reset => was_reset(h),
         Kind::Unread => unread(h),
     }
@@ -73,7 +91,7 @@ pub(crate) fn replay(text: &[u8]) -> Counts {
         let t = took(k, h, line, words_front(&words, lent.len));
         h = t.hasher;
         n = more(n);
-        counts = counted(counts, n, k, t.right);
+        counts = counted(counts, n, k, line, t.right);
         at = next_line(text, at);
     }
     counts

@@ -1,12 +1,16 @@
 // The lines of a hasher, one after the other. Each gives whether its answer is the line's, and the hasher for the next.
+ghost use Prim.Native.Nat.{_<_};
 use crate::fields::bytes_front;
 use crate::fields::is_bytes;
 use crate::fields::is_five;
 use crate::fields::is_mark;
+use crate::fields::is_pending;
+use crate::fields::is_refusal;
 use crate::fields::run_at;
 use crate::fields::small_at;
 use crate::fields::words_at;
 use crate::fields::words_front;
+use crate::kind::is_refused;
 use cases::flags_of;
 use finish::Outcome;
 use finish::finish;
@@ -14,6 +18,9 @@ use finish::finish_and_reset;
 use hasher::Hasher;
 use hasher::Updated;
 use hasher::reset;
+use in_place::through;
+use one_shot::one_shot;
+use refusal::Refusal;
 use refusal::is_nothing;
 use update::update;
 use verdict::Verdict;
@@ -43,23 +50,39 @@ pub(crate) fn fresh(h: Hasher, line: &[u8]) -> Took {
     }
 }
 
-// Whether the hasher after an update is the line's.
+// Whether the hasher after an update is the line's. The zeros behind the pending bytes are seen by the next call.
 fn stands(u: Updated, line: &[u8]) -> bool {
     let refusal = u.refusal;
     let h = u.hasher;
     let words = h.words;
+    let pending = h.pending;
+    if is_refused(line) {
+        return is_refusal(line, 3, refusal);
+    }
     if !is_nothing(refusal) {
         return false;
     }
     if !is_five(line, 3, words) {
         return false;
     }
-    if small_at(line, 4) != h.fill {
+    if !is_pending(line, 4, &pending, h.fill) {
         return false;
     }
-    is_mark(line, 5, h.mark)
+    if small_at(line, 5) as u64 != h.blocks {
+        return false;
+    }
+    is_mark(line, 6, h.mark)
 }
 
+// Whether an update by value and one in place are both the line's.
+fn both_stand(by_value: Updated, in_place: Updated, line: &[u8]) -> bool {
+    if !stands(by_value, line) {
+        return false;
+    }
+    stands(in_place, line)
+}
+
+// Both forms of an update. The one in place gives the next line its hasher.
 pub(crate) fn updated(h: Hasher, line: &[u8], table: &[u32]) -> Took {
     let piece = run_at(line, 1);
     let lent = words_at(line, 2);
@@ -71,15 +94,13 @@ pub(crate) fn updated(h: Hasher, line: &[u8], table: &[u32]) -> Took {
     }
     let bytes = piece.bytes;
     let masks = lent.words;
-    let u = update(
-        h,
-        bytes_front(&bytes, piece.len),
-        table,
-        words_front(&masks, lent.len),
-    );
-    let hasher = u.hasher;
+    let message = bytes_front(&bytes, piece.len);
+    let chosen = words_front(&masks, lent.len);
+    let u = update(h, message, table, chosen);
+    let v = through(h, message, table, chosen);
+    let hasher = v.hasher;
     Took {
-        right: stands(u, line),
+        right: both_stand(u, v, line),
         hasher,
     }
 }
@@ -93,19 +114,37 @@ fn verdict_number(v: Verdict) -> usize {
     }
 }
 
-fn is_outcome(line: &[u8], i: usize, o: Outcome) -> bool {
+// Whether a verdict and a digest are fields i and i + 1.
+fn is_done(line: &[u8], i: usize, v: Verdict, digest: &[u8; 20]) -> bool
+    requires { ⌜ i < 16 ⌝ }
+{
+    if is_refused(line) {
+        return false;
+    }
+    if small_at(line, i) != verdict_number(v) {
+        return false;
+    }
+    is_bytes(line, i + 1, digest)
+}
+
+// Whether an outcome and a digest are the line's, whose answer starts at field i.
+fn said(o: Outcome, digest: &[u8; 20], line: &[u8], i: usize) -> bool
+    requires { ⌜ i < 16 ⌝ }
+{
     match o {
-        Outcome::Done(v) => small_at(line, i) == verdict_number(v),
-        Outcome::Refused(r) => false,
+        Outcome::Done(v) => is_done(line, i, v, digest),
+        Outcome::Refused(r) => is_refused_so(line, i, r),
     }
 }
 
-// Whether a verdict and a digest are the line's.
-fn said(o: Outcome, digest: &[u8; 20], line: &[u8]) -> bool {
-    if !is_outcome(line, 2, o) {
-        return false;
+// Whether the line has this refusal in fields i and i + 1.
+fn is_refused_so(line: &[u8], i: usize, r: Refusal) -> bool
+    requires { ⌜ i < 16 ⌝ }
+{
+    if is_refused(line) {
+        return is_refusal(line, i, r);
     }
-    is_bytes(line, 3, digest)
+    false
 }
 
 pub(crate) fn finished(h: Hasher, line: &[u8], table: &[u32]) -> Took {
@@ -119,7 +158,7 @@ pub(crate) fn finished(h: Hasher, line: &[u8], table: &[u32]) -> Took {
     let digest = f.digest;
     let hasher = f.hasher;
     Took {
-        right: said(outcome, &digest, line),
+        right: said(outcome, &digest, line, 2),
         hasher,
     }
 }
@@ -135,8 +174,33 @@ pub(crate) fn closed(h: Hasher, line: &[u8], table: &[u32]) -> Took {
     let outcome = c.outcome;
     let hasher = c.hasher;
     Took {
-        right: said(outcome, &out, line),
+        right: said(outcome, &out, line, 2),
         hasher,
+    }
+}
+
+// A whole message at once: the hasher has no part in it.
+pub(crate) fn at_once(h: Hasher, line: &[u8], table: &[u32]) -> Took {
+    let message = run_at(line, 1);
+    let lent = words_at(line, 2);
+    if !message.good {
+        return unread(h);
+    }
+    if !lent.good {
+        return unread(h);
+    }
+    let bytes = message.bytes;
+    let masks = lent.words;
+    let d = one_shot(
+        bytes_front(&bytes, message.len),
+        table,
+        words_front(&masks, lent.len),
+    );
+    let outcome = d.outcome;
+    let digest = d.digest;
+    Took {
+        right: said(outcome, &digest, line, 3),
+        hasher: h,
     }
 }
 

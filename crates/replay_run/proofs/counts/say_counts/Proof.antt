@@ -7,10 +7,10 @@ use Rattle.replay_run.proofs.counts.say_counts.Statement.{statement}
 use Rattle.replay_run.proofs.counts.say_counts.Tie as tie
 
 abbrev Inv-loop : tie.InvT-loop
-Inv-loop of text i₀ t7 i = (i ≤ 9) × (108 ≡ length text)
+Inv-loop of text i₀ t7 i = (i ≤ 11) × (132 ≡ length text)
 
 abbrev μ-loop : tie.MeasureT-loop
-μ-loop of text i₀ t7 i = 9 - i
+μ-loop of text i₀ t7 i = 11 - i
 
 names-requires : tie.Need-names-requires Inv-loop μ-loop
 names-requires c κs = search needs

@@ -40,7 +40,7 @@ static uint32_t reset(void) { return purserumble_reset(HASHER, ANSWER); }
 static uint32_t finish(void) { return purserumble_finish(HASHER, m.digest, m.twenty, TABLE, NO_MASKS, ANSWER); }
 static uint32_t finish_and_reset(void)
 {
-    return purserumble_finish_and_reset(HASHER, m.digest, 20, TABLE, NO_MASKS, ANSWER);
+    return purserumble_finish_and_reset(HASHER, m.digest, m.twenty, TABLE, NO_MASKS, ANSWER);
 }
 static uint32_t one_shot(void) { return purserumble_one_shot(m.bytes, 1, m.digest, m.twenty, TABLE, m.mask, 1, ANSWER); }
 static uint32_t table_fault(void) { return purserumble_table_fault(TABLE, ANSWER); }
@@ -107,6 +107,21 @@ static void filled(void)
     memset(m.digest, 0xA5, sizeof m.digest);
 }
 
+/* An output of another size: 8, but 1 where the hasher is not well formed. */
+static void sizes(const char *name, uint32_t (*call)(void))
+{
+    for (size_t n = 0; n <= 21; n++) {
+        if (n == 20) continue;
+        for (int formed = 0; formed < 2; formed++) {
+            filled();
+            m.twenty = n;
+            m.state[0] = formed ? 0 : 64;
+            m.table[0] = 32;
+            refused(name, call, formed ? 8 : 1);
+        }
+    }
+}
+
 static void refusals(void)
 {
     static const struct { const char *name; uint32_t (*call)(void); int hasher; } calls[] = {
@@ -120,7 +135,11 @@ static void refusals(void)
         m.state[0] = 64;
         if (calls[i].hasher) refused(calls[i].name, calls[i].call, 1);
     }
+    filled();
+    m.state[0] = 64;
     refused("reset", reset, 1);
+    sizes("finish", finish);
+    sizes("finish_and_reset", finish_and_reset);
 }
 
 static void hasher(const char *name, uint32_t (*call)(void))
@@ -142,7 +161,7 @@ int main(void)
 {
     static const struct { const char *name; uint32_t (*call)(void); int hasher, digest, two; } calls[] = {
         { "one_block", one_block, 0, 0, 0 }, { "update", update, 1, 0, 1 }, { "reset", reset, 1, 0, 1 },
-        { "finish", finish, 1, 1, 1 }, { "finish_and_reset", finish_and_reset, 1, 0, 1 }, { "one_shot", one_shot, 0, 1, 1 },
+        { "finish", finish, 1, 0, 1 }, { "finish_and_reset", finish_and_reset, 1, 0, 1 }, { "one_shot", one_shot, 0, 1, 1 },
         { "table_fault", table_fault, 0, 0, 1 }, { "lookup", lookup, 0, 0, 1 }, { "compare", compare, 0, 1, 1 } };
     for (size_t i = 0; i < sizeof calls / sizeof *calls; i++) {
         kept(calls[i].name, calls[i].call);

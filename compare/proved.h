@@ -33,9 +33,9 @@ uint32_t purserumble_update(uint32_t *words, size_t five, uint8_t *pending, size
 uint32_t purserumble_reset(uint32_t *words, size_t five, uint8_t *pending, size_t sixty_four,
     uint64_t *state, size_t four, uint64_t *answer, size_t two);
 
-/* answer (2): the verdict, the refused record's place. The hasher stays as given. */
+/* answer (2): the verdict, the refused record's place. The hasher stays as given. A digest of other than 20 bytes gives 8. */
 uint32_t purserumble_finish(const uint32_t *words, size_t five, const uint8_t *pending, size_t sixty_four,
-    const uint64_t *state, size_t four, uint8_t *digest, size_t twenty, const uint32_t *table, size_t table_len,
+    const uint64_t *state, size_t four, uint8_t *digest, size_t digest_len, const uint32_t *table, size_t table_len,
     const uint32_t *masks, size_t masks_len, uint64_t *answer, size_t two);
 
 /* answer (2): as finish. Writes the output and resets the hasher, or on refusal neither. */

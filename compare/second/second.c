@@ -308,13 +308,13 @@ uint32_t purserumble_reset(uint32_t *words, size_t five, uint8_t *pending, size_
 }
 
 uint32_t purserumble_finish(const uint32_t *words, size_t five, const uint8_t *pending, size_t sixty_four,
-    const uint64_t *state, size_t four, uint8_t *digest, size_t twenty, const uint32_t *table, size_t table_len,
+    const uint64_t *state, size_t four, uint8_t *digest, size_t digest_len, const uint32_t *table, size_t table_len,
     const uint32_t *masks, size_t masks_len, uint64_t *answer, size_t two)
 {
-    if (!hasher_fits(five, sixty_four, state, four) || twenty != 20 || two != 2) return BROKEN;
+    if (!hasher_fits(five, sixty_four, state, four) || two != 2) return BROKEN;
     struct hasher h = hasher_of(words, pending, state);
     answer[0] = 0;
-    uint32_t refusal = finish_refusal(&h, 20, table, table_len, masks_len, &answer[1]);
+    uint32_t refusal = finish_refusal(&h, digest_len, table, table_len, masks_len, &answer[1]);
     if (!refusal) answer[0] = finished(h, digest, table, table_len, masks);
     return refusal;
 }

@@ -68,10 +68,13 @@ blockLeft o before =
 abbrev pub updatedLeft : Updated → Left
 updatedLeft u = left (numberOf (u .refusal)) (slicesOf (u .hasher) ++ answerPair 0 (u .refusal) ∷ [])
 
--- what a digest's call leaves where the bytes before were: the digest, or on a refusal those; and the outcome
+-- what a call leaves that has an output and an outcome
+abbrev pub outcomeLeft : Outcome → List ℕ → Left
+outcomeLeft o out = left (numberOf (outcomeRefusal o)) (out ∷ outcomeAnswer o ∷ [])
+
+-- what the one-shot form leaves where the bytes before were: the digest, or on a refusal those; and the outcome
 abbrev pub digestLeft : Outcome → List ℕ → List ℕ → Left
-digestLeft o digest before =
-    left (numberOf (outcomeRefusal o)) (unlessRefused (outcomeRefusal o) digest before ∷ outcomeAnswer o ∷ [])
+digestLeft o digest before = outcomeLeft o (unlessRefused (outcomeRefusal o) digest before)
 
 -- what a finish-and-reset leaves, of a hasher and an outcome, around the output that it wrote
 abbrev pub finishResetLeft : FinishedReset → List ℕ → Left

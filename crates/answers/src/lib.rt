@@ -145,7 +145,7 @@ pub fn leave_updated(
     say(answer, 0, r)
 }
 
-// What a finish or the one-shot form leaves: the digest, where it is not refused, and an answer.
+// What the one-shot form leaves: the digest, where it is not refused, and an answer.
 pub fn leave_digest(digest: &mut [u8], answer: &mut [u64], d: [u8; DIGEST_SIZE], o: Outcome) -> u32
     requires { ⌜ (length (now digest) ≡ digestSize) × (length (now answer) ≡ 2) ⌝ }
     ensures { λ r. ⌜ left r (now (digest .exit) ∷ now (answer .exit) ∷ []) ≡ digestLeft o d (now (digest .entry)) ⌝ }

@@ -17,13 +17,12 @@ use Rattle.hasher.specs.Hasher.{wellFormed, freshOf, resetOf}
 use Rattle.update.specs.Update.{updated}
 use Rattle.hasher.specs.declared.Hasher.{Hasher}
 use Rattle.hasher.specs.declared.Updated.{Updated}
-use Rattle.finish.specs.Finish.{lastChain, finishRefusal, outcomeOf, outcomeRefusal, digestOr, finished, finishedReset, writtenOut}
+use Rattle.finish.specs.Finish.{lastChain, finishRefusal, outcomeOf, outcomeRefusal, digestOr, finishedReset, writtenOut}
 use Rattle.finish.specs.declared.Outcome.the-variants.{Refused}
 use Rattle.layout.specs.Layout.{hasherIn, slicesOf, hasherFits}
 use Rattle.layout.proofs.ReadBack.{slices-back}
-use Rattle.verdict.specs.Verdict.{digestSize}
-use Rattle.answers.specs.Answers.{Left, left, answerPair, outcomeAnswer, updatedLeft, digestLeft}
-use Rattle.answers.proofs.Keeps.{Keeps, guarded-keeps, some-refusal, digest-keeps}
+use Rattle.answers.specs.Answers.{Left, left, answerPair, outcomeAnswer, outcomeLeft, updatedLeft}
+use Rattle.answers.proofs.Keeps.{Keeps, guarded-keeps, some-refusal}
 use Rattle.lent_hasher.specs.LentHasher.{updateCall, resetCall, finishCall, finishResetCall}
 
 module _ (w p s : List ℕ) where
@@ -58,14 +57,22 @@ module _ (w p s : List ℕ) where
       guarded-keeps (hasherFits (length w) (length p) s && eqb (length answer) 2) (updatedLeft (resetOf h)) (w ∷ p ∷ s ∷ []) (answer ∷ [])
       (λ e. updated-keeps (both-true (hasherFits (length w) (length p) s) (eqb (length answer) 2) e .0) (resetOf h) (reset-same (wellFormed h)))
 
+  -- what a finish leaves, of a refusal r and the chain c
+  output-keeps : (r : Refusal) (b : Bool) → isNothing r ≡ b → (c : Chain) (m : Bool) (out : List ℕ)
+      → 0 < outcomeLeft (outcomeOf r c m) (digestOr r c out) .number → Keeps (out ∷ []) (outcomeLeft (outcomeOf r c m) (digestOr r c out))
+  output-keeps r true i c m out n = absurd (lt-irrefl 0 (rw i at n))
+  output-keeps r false i c m out n = (outcomeAnswer (outcomeOf r c m) ∷ [], rw i)
+
   -- So with a finish, and the bytes lent for its digest; the hasher is lent to it for reading only.
   pub finish-keeps : (digest : List ℕ) (l : Loan) (answer : List ℕ) → 0 < finishCall w p s digest l answer .number
       → Keeps (digest ∷ []) (finishCall w p s digest l answer)
-  unfolding finishCall
+  unfolding finishCall finishedReset writtenOut
   finish-keeps digest l answer =
-      let f = finished (hasherIn w p s) l in
-      guarded-keeps (hasherFits (length w) (length p) s && (eqb (length digest) digestSize && eqb (length answer) 2)) (digestLeft (f .outcome) (f .digest) digest) (digest ∷ []) (answer ∷ [])
-      (λ e. digest-keeps (f .outcome) (f .digest) digest)
+      let h = hasherIn w p s in
+      let r = finishRefusal h (length digest) l in
+      let c = lastChain h l in
+      guarded-keeps (hasherFits (length w) (length p) s && eqb (length answer) 2) (outcomeLeft (outcomeOf r c (h .flags .mitigate)) (digestOr r c digest)) (digest ∷ []) (answer ∷ [])
+      (λ e. output-keeps r (isNothing r) refl c (h .flags .mitigate) digest)
 
   -- what a finish-and-reset leaves, of a refusal r, the chain c and the hasher g that it would hand back
   abbrev leftBy : Refusal → Chain → Bool → Hasher → List ℕ → Left

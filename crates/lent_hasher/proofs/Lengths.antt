@@ -1,5 +1,5 @@
 -- The lengths of a lent hasher that passed its test. Assumes nothing.
-use mathlib.Core.Path.{_≡_, ap, _∙_}
+use mathlib.Core.Path.{_≡_}
 use mathlib.Core.Bool.{Bool, true, false, not, _&&_}
 use mathlib.Core.List.{List}
 use Prim.Native.Nat.{ℕ}
@@ -10,12 +10,8 @@ use Rattle.word.proofs.Tests.{both-true}
 use Rattle.layout.specs.Layout.{stateFits, hasherFits}
 use Rattle.answers.proofs.Guards.{fit}
 
--- a test of a hasher and of the rest, where the rest is what another test found
-pub and-rest : (t : Bool) {b r u : Bool} → b ≡ (t && r) → r ≡ u → b ≡ (t && u)
-and-rest t e f = e ∙ ap (λ (x : Bool). t && x) f
-
 -- the lengths that were asked for: of a hasher, and of a hasher and an answer
-pub hasher-lengths : (w p : ℕ) (s : List ℕ) → hasherFits w p s ≡ true → (w ≡ 5) × (p ≡ 64) × (length s ≡ 4)
+hasher-lengths : (w p : ℕ) (s : List ℕ) → hasherFits w p s ≡ true → (w ≡ 5) × (p ≡ 64) × (length s ≡ 4)
 hasher-lengths w p s h =
     let f = both-true (eqb w 5) (eqb p 64 && stateFits s) h in
     let g = both-true (eqb p 64) (stateFits s) (f .1) in

@@ -4,13 +4,12 @@ use mathlib.Core.List.{List, [], _∷_}
 use Prim.Native.Nat.{ℕ}
 use lib.Dec.{eqb}
 use lib.ListN.{length}
-use Rattle.verdict.specs.Verdict.{digestSize}
 use Rattle.stream.specs.Loan.{Loan}
 use Rattle.hasher.specs.Hasher.{resetOf}
 use Rattle.update.specs.Update.{updated}
-use Rattle.finish.specs.Finish.{finished, finishedReset, writtenOut}
+use Rattle.finish.specs.Finish.{finishedReset, writtenOut}
 use Rattle.layout.specs.Layout.{hasherIn, hasherFits}
-use Rattle.answers.specs.Answers.{Left, guarded, updatedLeft, digestLeft, finishResetLeft}
+use Rattle.answers.specs.Answers.{Left, guarded, outcomeLeft, updatedLeft, finishResetLeft}
 
 -- the call of an update
 unfoldable pub updateCall : List ℕ → List ℕ → List ℕ → List ℕ → Loan → List ℕ → Left
@@ -26,12 +25,12 @@ resetCall words pending state answer =
     (updatedLeft (resetOf (hasherIn words pending state)))
     (words ∷ pending ∷ state ∷ answer ∷ [])
 
--- the call of a finish, which only reads the hasher
+-- the call of a finish, which only reads the hasher: outcome and output are those of a finish-and-reset
 unfoldable pub finishCall : List ℕ → List ℕ → List ℕ → List ℕ → Loan → List ℕ → Left
 finishCall words pending state digest l answer =
-    let f = finished (hasherIn words pending state) l in
-    guarded (hasherFits (length words) (length pending) state && (eqb (length digest) digestSize && eqb (length answer) 2))
-    (digestLeft (f .outcome) (f .digest) digest)
+    let h = hasherIn words pending state in
+    guarded (hasherFits (length words) (length pending) state && eqb (length answer) 2)
+    (outcomeLeft (finishedReset h (length digest) l .outcome) (writtenOut h digest l))
     (digest ∷ answer ∷ [])
 
 -- the call of a finish-and-reset

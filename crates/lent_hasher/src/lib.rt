@@ -5,13 +5,11 @@ ghost use Rattle.stream.specs.Loan.{loanOf};
 ghost use Rattle.answers.specs.Answers.{left};
 ghost use Rattle.lent_hasher.specs.LentHasher.{updateCall, resetCall, finishCall, finishResetCall};
 use answers::BROKEN_AGREEMENT;
-use answers::leave_digest;
 use answers::leave_finish_reset;
 use answers::leave_updated;
-use finish::finish;
+use answers::put_outcome;
 use finish::finish_and_reset;
 use hasher::reset;
-use layout::digest_fits;
 use layout::hasher_fits;
 use layout::hasher_in;
 use update::update;
@@ -49,7 +47,8 @@ pub fn reset_lent(
     leave_updated(words, pending, state, answer, fresh)
 }
 
-// The hasher is lent for reading only: a finish hands it back as given.
+// The hasher is lent for reading only: a finish hands it back as given. Finish-and-reset is the one that knows the size of
+// its output, and the reset hasher is let go.
 pub fn finish_lent(
     words: &[u32],
     pending: &[u8],
@@ -61,18 +60,13 @@ pub fn finish_lent(
 ) -> u32
     ensures { λ r. ⌜ left r (now (digest .exit) ∷ now (answer .exit) ∷ []) ≡ finishCall (now (words .entry)) (now (pending .entry)) (now (state .entry)) (now (digest .entry)) (loanOf (now (table .entry)) (now (masks .entry))) (now (answer .entry)) ⌝ }
 {
-    if !hasher_fits(
-        words.len(),
-        pending.len(),
-        state,
-        digest_fits(digest.len(), answer.len()),
-    ) {
+    let fits = hasher_fits(words.len(), pending.len(), state, answer.len() == 2);
+    if !fits {
         return BROKEN_AGREEMENT;
     }
-    let f = finish(hasher_in(words, pending, state), table, masks);
-    let d = f.digest;
-    let o = f.outcome;
-    leave_digest(digest, answer, d, o)
+    let c = finish_and_reset(hasher_in(words, pending, state), digest, table, masks);
+    let o = c.outcome;
+    put_outcome(answer, o)
 }
 
 pub fn finish_and_reset_lent(

@@ -8,7 +8,7 @@
 /* Everything that a call is lent, and the lengths that it is told. Memory is there for one element more. */
 static struct lent {
     uint32_t words[6], after[6], table[82], mask[1], verdict;
-    uint64_t state[5], answer[5];
+    uint64_t flags, state[5], answer[5];
     uint8_t pending[65], bytes[1], digest[21], block[64], sheet[32], code[12];
     size_t five, five_after, sixty_four, four, twenty, two, four_answers;
 } m;
@@ -35,6 +35,7 @@ static uint32_t one_block(void)
 {
     return purserumble_one_block(m.words, m.five, m.block, 64, TABLE, 1, 1, 0, m.after, m.five_after, m.answer, m.four_answers);
 }
+static uint32_t new_hasher(void) { return purserumble_new(m.flags, HASHER); }
 static uint32_t update(void) { return purserumble_update(HASHER, m.bytes, 1, TABLE, NO_MASKS, ANSWER); }
 static uint32_t reset(void) { return purserumble_reset(HASHER, ANSWER); }
 static uint32_t finish(void) { return purserumble_finish(HASHER, m.digest, m.twenty, TABLE, NO_MASKS, ANSWER); }
@@ -122,6 +123,36 @@ static void sizes(const char *name, uint32_t (*call)(void))
     }
 }
 
+/* A new hasher, of all flags, over memory that holds something else. */
+static void beginnings(void)
+{
+    static const uint32_t start[5] = { 0x67452301, 0xefcdab89, 0x98badcfe, 0x10325476, 0xc3d2e1f0 };
+    kept("new", new_hasher);
+    lengths("new", new_hasher, &m.five);
+    lengths("new", new_hasher, &m.sixty_four);
+    lengths("new", new_hasher, &m.four);
+    for (int bit = 4; bit < 64; bit++) {
+        fresh();
+        m.flags = (uint64_t)1 << bit;
+        broken("new", new_hasher);
+    }
+    for (uint64_t flags = 0; flags < 16; flags++) {
+        struct lent want;
+        fresh();
+        m.flags = flags;
+        want = m;
+        memcpy(want.words, start, sizeof start);
+        want.state[3] = flags;
+        memset(m.words, 0xA5, 20);
+        memset(m.pending, 0xA5, 64);
+        memset(m.state, 0xA5, 32);
+        tried++;
+        if (new_hasher() == 0 && memcmp(&want, &m, sizeof m) == 0) continue;
+        wrong++;
+        printf("  new did not begin with the flags %d\n", (int)flags);
+    }
+}
+
 static void refusals(void)
 {
     static const struct { const char *name; uint32_t (*call)(void); int hasher; } calls[] = {
@@ -177,6 +208,7 @@ int main(void)
     m.verdict = 0;
     broken("compare", compare);
     refusals();
+    beginnings();
     printf("%ld comparisons, %ld differences\n", tried, wrong);
     return wrong != 0;
 }

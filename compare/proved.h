@@ -24,6 +24,10 @@ uint32_t purserumble_one_block(const uint32_t *words, size_t five, const uint8_t
     const uint32_t *table, size_t table_len, uint32_t mask, bool mitigate, bool reduced,
     uint32_t *after, size_t five_after, uint64_t *answer, size_t four);
 
+/* A hasher at the start of a message, whatever was there before. No answer: it gives 0, or 255 for flags above 15. */
+uint32_t purserumble_new(uint64_t flags, uint32_t *words, size_t five, uint8_t *pending, size_t sixty_four,
+    uint64_t *state, size_t four);
+
 /* answer (2): 0, the refused record's place. */
 uint32_t purserumble_update(uint32_t *words, size_t five, uint8_t *pending, size_t sixty_four,
     uint64_t *state, size_t four, const uint8_t *bytes, size_t bytes_len, const uint32_t *table, size_t table_len,

@@ -278,6 +278,15 @@ uint32_t purserumble_one_block(const uint32_t *words, size_t five, const uint8_t
     return refusal;
 }
 
+uint32_t purserumble_new(uint64_t flags, uint32_t *words, size_t five, uint8_t *pending, size_t sixty_four,
+    uint64_t *state, size_t four)
+{
+    if (five != 5 || sixty_four != 64 || four != 4 || flags > 15) return BROKEN;
+    struct hasher h = fresh(flags);
+    store(&h, words, pending, state);
+    return 0;
+}
+
 uint32_t purserumble_update(uint32_t *words, size_t five, uint8_t *pending, size_t sixty_four,
     uint64_t *state, size_t four, const uint8_t *bytes, size_t bytes_len, const uint32_t *table, size_t table_len,
     const uint32_t *masks, size_t masks_len, uint64_t *answer, size_t two)

@@ -6,11 +6,12 @@ ghost use mathlib.Core.Path.{_≡_};
 ghost use mathlib.Core.List.{[], _∷_};
 ghost use Rattle.stream.specs.Loan.{loanOf};
 ghost use Rattle.answers.specs.Answers.{left};
-ghost use Rattle.lent_hasher.specs.LentHasher.{updateCall, resetCall, finishCall, finishResetCall};
+ghost use Rattle.lent_hasher.specs.LentHasher.{newCall, updateCall, resetCall, finishCall, finishResetCall};
 ghost use Rattle.lent_table.specs.LentTable.{blockCall, oneShotCall, tableCall};
 ghost use Rattle.lent_sheet.specs.LentSheet.{lookupCall, compareCall};
 use lent_hasher::finish_and_reset_lent;
 use lent_hasher::finish_lent;
+use lent_hasher::new_lent;
 use lent_hasher::reset_lent;
 use lent_hasher::update_lent;
 use lent_sheet::compare_lent;
@@ -33,6 +34,19 @@ pub extern "C" fn purserumble_one_block(
     ensures { λ r. ⌜ left r (now (after .exit) ∷ now (answer .exit) ∷ []) ≡ blockCall (now (words .entry)) (now (block .entry)) (now (table .entry)) mask (record { mitigate = mitigate; reduced = reduced }) (now (after .entry)) (now (answer .entry)) ⌝ }
 {
     one_block_lent(words, block, table, mask, mitigate, reduced, after, answer)
+}
+
+// Where a caller begins: a hasher of zeros is well formed too, but is no start of a message.
+#[no_mangle]
+pub extern "C" fn purserumble_new(
+    flags: u64,
+    words: &mut [u32],
+    pending: &mut [u8],
+    state: &mut [u64],
+) -> u32
+    ensures { λ r. ⌜ left r (now (words .exit) ∷ now (pending .exit) ∷ now (state .exit) ∷ []) ≡ newCall flags (now (words .entry)) (now (pending .entry)) (now (state .entry)) ⌝ }
+{
+    new_lent(flags, words, pending, state)
 }
 
 #[no_mangle]

@@ -1,4 +1,4 @@
--- A hasher that is read from lent memory of the right form is written back as it lay there. Assumes nothing.
+-- A hasher that is read from lent memory of the right form is written back as it lay there; a new one has the flags that were asked for. Assumes nothing.
 use mathlib.Core.Path.{_≡_, refl, sym, ap}
 use mathlib.Core.Bool.{Bool, true, false, _&&_, true≢false}
 use mathlib.Core.Logic.{⊎-elim}
@@ -10,6 +10,7 @@ use lib.Dec.{leb, eqb}
 use lib.ListN.{length}
 use borrow.Author.Tests.{eqb-true, leb-true}
 use Rattle.word.proofs.Tests.{both-true}
+use Rattle.hasher.specs.Hasher.{freshOf}
 use Rattle.layout.specs.Layout.{bitOf, hasWorth, flagsIn, flagsNumber, hasherIn, stateOf, slicesOf, stateFits, hasherFits}
 
 -- every number below n comes back from f
@@ -27,6 +28,11 @@ back f (suc n) e x l =
 flags-back : (x : ℕ) → x < 16 → flagsNumber (flagsIn x) ≡ x
 unfolding backs flagsNumber flagsIn
 flags-back = back (λ (x : ℕ). flagsNumber (flagsIn x)) 16 refl
+
+-- a new hasher's state: nothing pending, no blocks, no mark, and the flags that were asked for
+pub new-state : (x : ℕ) → x < 16 → stateOf (freshOf (flagsIn x)) ≡ 0 ∷ 0 ∷ 0 ∷ x ∷ []
+unfolding stateOf
+new-state x l = rw (flags-back x l)
 
 mark-back : (x : ℕ) → x < 2 → bitOf (hasWorth x 1) ≡ x
 unfolding backs

@@ -49,6 +49,10 @@ stateFits state = eqb (length state) 4 && (leb (getD state 2 0) 1 && leb (getD s
 abbrev pub hasherFits : ℕ → ℕ → List ℕ → Bool
 hasherFits words pending state = eqb words 5 && (eqb pending 64 && stateFits state)
 
+-- whether a new hasher fits slices of so many words, pending bytes and numbers, and there are such flags
+abbrev pub newFits : ℕ → ℕ → ℕ → ℕ → Bool
+newFits words pending state flags = eqb words 5 && (eqb pending 64 && (eqb state 4 && leb flags 15))
+
 -- a verdict as a number; 0 is left for none
 abbrev pub verdictNumber : Verdict → ℕ
 verdictNumber Ok = 1

@@ -8,7 +8,7 @@ ghost use lib.Dec.{eqb};
 ghost use lib.ListN.{length};
 ghost use Rattle.flags.specs.Flags.{isLent};
 ghost use Rattle.verdict.specs.Verdict.{digestSize};
-ghost use Rattle.layout.specs.Layout.{bitOf, hasWorth, flagsIn, flagsNumber, hasherIn, stateOf, stateFits, hasherFits, verdictNumber, verdictKnown, verdictFor};
+ghost use Rattle.layout.specs.Layout.{bitOf, hasWorth, flagsIn, flagsNumber, hasherIn, stateOf, stateFits, hasherFits, newFits, verdictNumber, verdictKnown, verdictFor};
 use flags::Flags;
 use flags::Masks;
 use hasher::Hasher;
@@ -161,6 +161,22 @@ pub fn hasher_fits(words: usize, pending: usize, state: &[u64], rest: bool) -> b
         return false;
     }
     rest
+}
+
+// Whether a new hasher's slices have their fixed lengths, and a number stands for flags.
+pub fn new_fits(words: usize, pending: usize, state: usize, flags: u64) -> bool
+    ensures { λ r. ⌜ r ≡ newFits words pending state flags ⌝ }
+{
+    if words != 5 {
+        return false;
+    }
+    if pending != 64 {
+        return false;
+    }
+    if state != 4 {
+        return false;
+    }
+    flags <= 15
 }
 
 // Whether a digest and an answer have their fixed lengths.

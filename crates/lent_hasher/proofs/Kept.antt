@@ -19,13 +19,20 @@ use Rattle.hasher.specs.declared.Hasher.{Hasher}
 use Rattle.hasher.specs.declared.Updated.{Updated}
 use Rattle.finish.specs.Finish.{lastChain, finishRefusal, outcomeOf, outcomeRefusal, digestOr, finishedReset, writtenOut}
 use Rattle.finish.specs.declared.Outcome.the-variants.{Refused}
-use Rattle.layout.specs.Layout.{hasherIn, slicesOf, hasherFits}
+use Rattle.layout.specs.Layout.{flagsIn, hasherIn, slicesOf, hasherFits, newFits}
 use Rattle.layout.proofs.ReadBack.{slices-back}
 use Rattle.answers.specs.Answers.{Left, left, answerPair, outcomeAnswer, outcomeLeft, updatedLeft}
 use Rattle.answers.proofs.Keeps.{Keeps, guarded-keeps, some-refusal}
-use Rattle.lent_hasher.specs.LentHasher.{updateCall, resetCall, finishCall, finishResetCall}
+use Rattle.lent_hasher.specs.LentHasher.{newCall, updateCall, resetCall, finishCall, finishResetCall}
 
 module _ (w p s : List ℕ) where
+  -- A new hasher is written whole, or where the number is not 0 nothing is.
+  pub new-keeps : (flags : ℕ) → 0 < newCall flags w p s .number → Keeps (w ∷ p ∷ s ∷ []) (newCall flags w p s)
+  unfolding newCall
+  new-keeps flags =
+      guarded-keeps (newFits (length w) (length p) (length s) flags) (left 0 (slicesOf (freshOf (flagsIn flags)))) (w ∷ p ∷ s ∷ []) []
+      (λ e n. absurd (lt-irrefl 0 n))
+
   -- an update that is refused hands its hasher back, and a reset too
   updated-keeps : hasherFits (length w) (length p) s ≡ true → (u : Updated) → (isNothing (u .refusal) ≡ false → u .hasher ≡ hasherIn w p s)
       → 0 < updatedLeft u .number → Keeps (w ∷ p ∷ s ∷ []) (updatedLeft u)

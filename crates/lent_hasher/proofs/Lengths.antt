@@ -1,13 +1,13 @@
--- The lengths of a lent hasher that passed its test. Assumes nothing.
-use mathlib.Core.Path.{_≡_}
+-- The lengths of a lent hasher, and of the memory for a new one, that passed the test. Assumes nothing.
+use mathlib.Core.Path.{_≡_, sym, _∙_}
 use mathlib.Core.Bool.{Bool, true, false, not, _&&_}
 use mathlib.Core.List.{List}
 use Prim.Native.Nat.{ℕ}
 use lib.Dec.{leb, eqb}
 use lib.ListN.{length, getD}
-use borrow.Author.Tests.{eqb-true}
+use borrow.Author.Tests.{eqb-true, not-false}
 use Rattle.word.proofs.Tests.{both-true}
-use Rattle.layout.specs.Layout.{stateFits, hasherFits}
+use Rattle.layout.specs.Layout.{stateFits, hasherFits, newFits}
 use Rattle.answers.proofs.Guards.{fit}
 
 -- the lengths that were asked for: of a hasher, and of a hasher and an answer
@@ -23,3 +23,9 @@ pub lengths : (w p : ℕ) (s : List ℕ) (a : ℕ) {b : Bool} → b ≡ (hasherF
 lengths w p s a e h =
     let f = fit (hasherFits w p s) (eqb a 2) e h in
     (hasher-lengths w p s (f .0), eqb-true a 2 (f .1))
+
+pub new-lengths : (w p s flags : ℕ) {b : Bool} → b ≡ newFits w p s flags → not b ≡ false → (w ≡ 5) × (p ≡ 64) × (s ≡ 4)
+new-lengths w p s flags {b} e h =
+    let f = both-true (eqb w 5) (eqb p 64 && (eqb s 4 && leb flags 15)) (sym e ∙ not-false b h) in
+    let g = both-true (eqb p 64) (eqb s 4 && leb flags 15) (f .1) in
+    (eqb-true w 5 (f .0), eqb-true p 64 (g .0), eqb-true s 4 (both-true (eqb s 4) (leb flags 15) (g .1) .0))

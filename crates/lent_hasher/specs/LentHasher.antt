@@ -5,11 +5,18 @@ use Prim.Native.Nat.{ℕ}
 use lib.Dec.{eqb}
 use lib.ListN.{length}
 use Rattle.stream.specs.Loan.{Loan}
-use Rattle.hasher.specs.Hasher.{resetOf}
+use Rattle.hasher.specs.Hasher.{freshOf, resetOf}
 use Rattle.update.specs.Update.{updated}
 use Rattle.finish.specs.Finish.{finishedReset, writtenOut}
-use Rattle.layout.specs.Layout.{hasherIn, hasherFits}
-use Rattle.answers.specs.Answers.{Left, guarded, outcomeLeft, updatedLeft, finishResetLeft}
+use Rattle.layout.specs.Layout.{flagsIn, hasherIn, slicesOf, hasherFits, newFits}
+use Rattle.answers.specs.Answers.{Left, left, guarded, outcomeLeft, updatedLeft, finishResetLeft}
+
+-- the call of a new hasher, with the flags of a number
+unfoldable pub newCall : ℕ → List ℕ → List ℕ → List ℕ → Left
+newCall flags words pending state =
+    guarded (newFits (length words) (length pending) (length state) flags)
+    (left 0 (slicesOf (freshOf (flagsIn flags))))
+    (words ∷ pending ∷ state ∷ [])
 
 -- the call of an update
 unfoldable pub updateCall : List ℕ → List ℕ → List ℕ → List ℕ → Loan → List ℕ → Left

@@ -1,18 +1,33 @@
-// The calls on a hasher that lies in lent memory: update, reset, finish, and finish and reset.
+// The calls on a hasher that lies in lent memory: new, update, reset, finish, and finish and reset.
 ghost use mathlib.Core.Path.{_≡_};
 ghost use mathlib.Core.List.{[], _∷_};
 ghost use Rattle.stream.specs.Loan.{loanOf};
 ghost use Rattle.answers.specs.Answers.{left};
-ghost use Rattle.lent_hasher.specs.LentHasher.{updateCall, resetCall, finishCall, finishResetCall};
+ghost use Rattle.lent_hasher.specs.LentHasher.{newCall, updateCall, resetCall, finishCall, finishResetCall};
 use answers::BROKEN_AGREEMENT;
 use answers::leave_finish_reset;
 use answers::leave_updated;
 use answers::put_outcome;
 use finish::finish_and_reset;
+use hasher::Hasher;
 use hasher::reset;
+use layout::flags_in;
 use layout::hasher_fits;
 use layout::hasher_in;
+use layout::new_fits;
+use layout::put_hasher;
 use update::update;
+
+// A hasher at the start of a message, with the flags of a number.
+pub fn new_lent(flags: u64, words: &mut [u32], pending: &mut [u8], state: &mut [u64]) -> u32
+    ensures { λ r. ⌜ left r (now (words .exit) ∷ now (pending .exit) ∷ now (state .exit) ∷ []) ≡ newCall flags (now (words .entry)) (now (pending .entry)) (now (state .entry)) ⌝ }
+{
+    if !new_fits(words.len(), pending.len(), state.len(), flags) {
+        return BROKEN_AGREEMENT;
+    }
+    put_hasher(words, pending, state, Hasher::new(flags_in(flags)));
+    0
+}
 
 pub fn update_lent(
     words: &mut [u32],

@@ -1,7 +1,8 @@
-/* Breaks the agreement of proved.h in each way, one at a time: a call must return 255 and change no byte. Kept, it must not
- * return 255; where it is refused, it must write its answer alone. Linked with the static library it asks the proved code, linked with second/second.c the second program.
+/* Breaks the agreement of purserumble.h in each way, one at a time: a call must return 255 and change no byte. Kept, it must
+ * not return 255; where it is refused, it must write its answer alone. Linked with the static library it asks the proved
+ * code, linked with second/second.c the second program.
  */
-#include "proved.h"
+#include "../include/purserumble.h"
 #include <stdio.h>
 #include <string.h>
 
@@ -188,6 +189,45 @@ static void hasher(const char *name, uint32_t (*call)(void))
     }
 }
 
+static void expect(const char *name, uint64_t said, uint64_t wanted)
+{
+    tried++;
+    if (said == wanted) return;
+    wrong++;
+    printf("  %s gave %d, not %d\n", name, (int)said, (int)wanted);
+}
+
+/* The functions over structs, with null for what is empty. */
+static void structs(void)
+{
+    static const uint8_t of_nothing[20] = { 0xda, 0x39, 0xa3, 0xee, 0x5e, 0x6b, 0x4b, 0x0d, 0x32, 0x55,
+        0xbf, 0xef, 0x95, 0x60, 0x18, 0x90, 0xaf, 0xd8, 0x07, 0x09 };
+    const struct purserumble_loan loan = { m.table, 82, NULL, 0 };
+    struct purserumble_hasher h;
+    fresh();
+    expect("hasher_new", purserumble_hasher_new(&h, 16), 255);
+    expect("hasher_new", purserumble_hasher_new(&h, 0), 0);
+    expect("hasher_update", purserumble_hasher_update(&h, NULL, 0, NULL, m.answer), 0);
+    expect("hasher_finish", purserumble_hasher_finish(&h, m.digest, NULL, m.answer), 0);
+    expect("hasher_finish's verdict", m.answer[0], PURSERUMBLE_OK);
+    expect("hasher_finish's digest", memcmp(m.digest, of_nothing, 20) != 0, 0);
+    expect("hasher_update", purserumble_hasher_update(&h, "x", 1, NULL, m.answer), 0);
+    expect("hasher_finish_and_reset", purserumble_hasher_finish_and_reset(&h, m.digest, NULL, m.answer), 0);
+    expect("hasher_finish_and_reset's digest", memcmp(m.digest, of_nothing, 20) != 0, 1);
+    expect("hasher_reset", purserumble_hasher_reset(&h), 0);
+    expect("message_digest", purserumble_message_digest(NULL, 0, m.digest, &loan, m.answer), 6);
+    expect("block_words", purserumble_block_words(h.words, m.block, NULL, 1, 1, 0, m.after, m.answer), 2);
+    expect("block_words", purserumble_block_words(h.words, m.block, &loan, 1, 1, 0, m.after, m.answer), 0);
+    expect("block_words's mark", m.answer[0], 1);
+    expect("loan_fault", purserumble_loan_fault(NULL, m.answer), 2);
+    expect("loan_fault", purserumble_loan_fault(&loan, m.answer), 0);
+    expect("sheet_lookup", purserumble_sheet_lookup(NULL, 0, NULL, 0, m.answer), 8);
+    expect("sheet_lookup", purserumble_sheet_lookup(m.sheet, 32, m.code, 12, m.answer), 0);
+    expect("sheet_lookup's offset", m.answer[0], 12);
+    expect("sheet_compare", purserumble_sheet_compare(NULL, 0, m.code, 12, PURSERUMBLE_OK, m.digest, m.answer), 0);
+    expect("sheet_compare's answer", m.answer[0], PURSERUMBLE_ABSENT);
+}
+
 int main(void)
 {
     static const struct { const char *name; uint32_t (*call)(void); int hasher, digest, two; } calls[] = {
@@ -209,6 +249,7 @@ int main(void)
     broken("compare", compare);
     refusals();
     beginnings();
+    structs();
     printf("%ld comparisons, %ld differences\n", tried, wrong);
     return wrong != 0;
 }

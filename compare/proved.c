@@ -1,10 +1,10 @@
-/* Answers a request file by the calls of proved.h: linked with the static library it is the proved code's side, linked
+/* Answers a request file by the calls of purserumble.h: linked with the static library it is the proved code's side, linked
  * with second/second.c the second program's.
  *
  *   proved REQUESTS ANSWERS
  */
 #include "format.h"
-#include "proved.h"
+#include "../include/purserumble.h"
 
 enum { SLOTS = 65536, GUARD = 16 };
 

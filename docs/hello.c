@@ -1,17 +1,21 @@
-/* A C program that uses the static library: the digest of `hello world`, with the control record lent and its bit set in
- * the mask, so that the one block is marked. */
-#include "../compare/proved.h"
+/* A C program that uses the static library, and C++ as well: the digest of `hello world`, taken in two pieces, with the
+ * control record lent and masks off, so that the one block is marked. */
+#include "../include/purserumble.h"
 #include <stdio.h>
 
 int main(void)
 {
-    static const char *const words[] = { "refused", "ok", "mitigated", "collision" };
-    const uint8_t message[] = "hello world";
-    const uint32_t table[82] = { 0, 58 }, mask = 1;
-    uint8_t digest[20];
-    uint64_t answer[2];
-    uint32_t refusal = purserumble_one_shot(message, 11, digest, 20, table, 82, &mask, 1, answer, 2);
-    printf("%u %s ", refusal, words[answer[0]]);
+    static const char *const verdicts[] = { "refused", "ok", "mitigated", "collision" };
+    static const uint32_t table[82] = { 0, 58 };
+    const struct purserumble_loan loan = { table, 82, NULL, 0 };
+    struct purserumble_hasher h;
+    uint8_t digest[20] = { 0 };
+    uint64_t answer[2] = { 0, 0 };
+    uint32_t refusal = purserumble_hasher_new(&h, PURSERUMBLE_DETECT | PURSERUMBLE_MITIGATE);
+    if (!refusal) refusal = purserumble_hasher_update(&h, "hello ", 6, &loan, answer);
+    if (!refusal) refusal = purserumble_hasher_update(&h, "world", 5, &loan, answer);
+    if (!refusal) refusal = purserumble_hasher_finish(&h, digest, &loan, answer);
+    printf("%u %s ", (unsigned)refusal, verdicts[answer[0]]);
     for (int i = 0; i < 20; i++) printf("%02x", digest[i]);
     printf("\n");
     return 0;

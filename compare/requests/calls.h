@@ -1,6 +1,6 @@
 /* What a request file is made of: chance, the tables, the published files, and each call as it is written down. */
 #include "../format.h"
-#include "../proved.h"
+#include "../../include/purserumble.h"
 
 enum { RECORD = 82, MOST = 32, MOST_WORDS = 40 * RECORD };
 enum { REAL, CONTROL, CONTROL_65, NO_TABLE, GOOD, GOOD_END = 40, BAD = GOOD_END, SLOTS = 64 };

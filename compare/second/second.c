@@ -1,10 +1,10 @@
 /* The second program: SHA-1 with collision detection, the hasher and the barcode sheet, after FIPS 180-4 and the scope
- * paper, as the calls of proved.h. It is made to be plain, and to go another way than the Rust: a table of
+ * paper, as the calls of purserumble.h. It is made to be plain, and to go another way than the Rust: a table of
  * differences is tried by walking the block forward to the test step, undoing the sibling step by step to its start,
  * and compressing the sibling from there through all 80 steps. Nothing is saved between records, and a message goes
  * in byte by byte.
  */
-#include "../proved.h"
+#include "../../include/purserumble.h"
 #include <string.h>
 
 enum { RECORD = 82, MOST_RECORDS = 32 };

@@ -23,7 +23,7 @@ const PIECE: usize = 64 * 1024;
 type Digest = [u8; 20];
 type Side<'a> = (&'a str, Box<dyn Fn(&[u8]) -> Digest + 'a>);
 
-/// The proved code, by the calls of ../proved.h.
+/// The proved code, by the calls of ../../include/purserumble.h.
 #[cfg(proved)]
 mod proved {
     extern "C" {

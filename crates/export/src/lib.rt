@@ -1,4 +1,4 @@
-// The calls for programs in C and Rust, as compare/proved.h declares them. A slice passes as a pointer and a length.
+// The calls for programs in C and Rust, as include/purserumble.h declares them. A slice passes as a pointer and a length.
 // Where a caller breaks the header's agreement on lengths, marks, flags and verdicts, a call returns 255 and changes
 // nothing: the caller is told so instead of being trapped. Only what stands in this crate gets into the static
 // library, so each call has its name here and its work in the crates below.

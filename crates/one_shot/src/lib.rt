@@ -2,6 +2,7 @@
 ghost use mathlib.Core.Path.{_≡_};
 ghost use Rattle.stream.specs.Loan.{loanOf};
 ghost use Rattle.one_shot.specs.Whole.{wholeRefusal, wholeOf, digested};
+use absorb::absorb;
 use finish::Outcome;
 use finish::last_chain;
 use fips::digest;
@@ -13,7 +14,6 @@ use refusal::is_nothing;
 use stream::loan_refusal;
 use stream::masks_from;
 use update::MOST_BYTES;
-use absorb::absorb;
 use verdict::verdict_of;
 
 // What the call gives: 20 zeros for the digest on a refusal.

@@ -4,12 +4,12 @@ ghost use Rattle.octets.specs.Octets.{sameBytes};
 ghost use Rattle.step.specs.Step.{regsOf, sameRegs};
 ghost use Rattle.flags.specs.Flags.{isLent};
 ghost use Rattle.refusal_run.specs.Same.{sameBit, sameFlags, sameCounts, sameHasher};
+use flags::Flags;
+use flags::Masks;
 use hasher::Hasher;
 use octets::same_bytes;
 use step::regs_of;
 use step::same_regs;
-use flags::Flags;
-use flags::Masks;
 
 fn same_words(a: [u32; 5], b: [u32; 5]) -> bool
     ensures { λ r. ⌜ r ≡ sameRegs (regsOf a) (regsOf b) ⌝ }

@@ -55,7 +55,7 @@ fn say_fault(r: Refusal) {
 }
 
 // The case, the refusal's number and place, the words, and what was found.
-fn show(case: &[u8], b: OneBlock) {
+fn say_block(case: &[u8], b: OneBlock) {
     let r = b.refusal;
     let w = b.words;
     let f = b.found;
@@ -102,11 +102,11 @@ fn control(line: &[u8]) {
         word_at(line, 6),
         mode_of(number_at(line, 7)),
     );
-    show(rest_of(line, 9), b);
+    say_block(rest_of(line, 9), b);
 }
 
 // Block i of a message, from the given words.
-fn run(w: [u32; 5], m: &[u8], i: usize, table: &[u32], mask: u32, mode: Mode) -> OneBlock {
+fn nth_block(w: [u32; 5], m: &[u8], i: usize, table: &[u32], mask: u32, mode: Mode) -> OneBlock {
     if i < m.len() / 64 {
         let at = 64 * i;
         let end = at + 64;
@@ -120,7 +120,7 @@ fn after(m: &[u8], n: usize, table: &[u32]) -> [u32; 5] {
     let mode = mode_of(0);
     let mut w = start();
     for i in 0..n {
-        let b = run(w, m, i, table, 0, mode);
+        let b = nth_block(w, m, i, table, 0, mode);
         w = b.words;
     }
     w
@@ -129,7 +129,7 @@ fn after(m: &[u8], n: usize, table: &[u32]) -> [u32; 5] {
 // One block of a file.
 fn block_of(line: &[u8], m: &[u8], table: &[u32]) {
     let i = number_at(line, 3);
-    let b = run(
+    let b = nth_block(
         after(m, i, table),
         m,
         i,
@@ -137,7 +137,7 @@ fn block_of(line: &[u8], m: &[u8], table: &[u32]) {
         word_at(line, 4),
         mode_of(number_at(line, 5)),
     );
-    show(rest_of(line, 6), b);
+    say_block(rest_of(line, 6), b);
 }
 
 fn front_of(line: &[u8], m: &[u8; 320], table: &[u32; MOST_WORDS]) {

@@ -95,7 +95,7 @@ fn by_finish(h: Hasher, m: &[u8], line: &[u8], table: &[u32], masks: &[u32]) -> 
 }
 
 // In one piece, and a finish-and-reset.
-fn by_close(h: Hasher, m: &[u8], table: &[u32], masks: &[u32]) -> Ended {
+fn by_finish_reset(h: Hasher, m: &[u8], table: &[u32], masks: &[u32]) -> Ended {
     let n = m.len();
     let mut digest = [0u8; 20];
     let g = piece(h, m, table, lent(masks, 0, n / 64));
@@ -132,7 +132,7 @@ pub(crate) fn end_by(
 ) -> Ended {
     match way {
         0 => by_finish(h, m, line, table, masks),
-        1 => by_close(h, m, table, masks),
+        1 => by_finish_reset(h, m, table, masks),
         _ => at_once(h, m, table, masks),
     }
 }

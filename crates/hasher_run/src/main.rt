@@ -58,7 +58,7 @@ fn call(letter: u8, line: &[u8], short: &[u8; SHORT], table: &[u32], masks: &[u3
 }
 
 // Field 1 has the words of the table: 82 for the control record, else it is the real one.
-fn lent(
+fn call_on(
     letter: u8,
     line: &[u8],
     short: &[u8; SHORT],
@@ -82,7 +82,7 @@ fn one(line: &[u8], short: &[u8; SHORT], real: &[u32; MOST_WORDS], control: &[u3
     match letter {
         b'#' => return,
         b'=' => say_title(line),
-        _ => lent(letter, line, short, real, control),
+        _ => call_on(letter, line, short, real, control),
     }
 }
 

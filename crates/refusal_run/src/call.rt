@@ -93,7 +93,7 @@ fn say_out(o: Outcome, out: &[u8; 24]) {
 }
 
 // The output is lent as the front of 24 bytes; field 13 has its size.
-pub(crate) fn by_close(line: &[u8], table: &[u32], masks: &[u32]) {
+pub(crate) fn by_finish_reset(line: &[u8], table: &[u32], masks: &[u32]) {
     let h = hasher_of(line);
     let mut out = [0xA5u8; 24];
     let size = number_at(line, 13);

@@ -5,7 +5,7 @@ mod given;
 mod same;
 
 use call::at_once;
-use call::by_close;
+use call::by_finish_reset;
 use call::by_finish;
 use call::by_reset;
 use call::by_update;
@@ -38,14 +38,14 @@ fn by_letter(letter: u8, line: &[u8], table: &[u32], masks: &[u32]) {
         b'p' => in_place(line, table, masks),
         b'r' => by_reset(line),
         b'f' => by_finish(line, table, masks),
-        b'c' => by_close(line, table, masks),
+        b'c' => by_finish_reset(line, table, masks),
         b'o' => at_once(line, table, masks),
         _ => say_given(line),
     }
 }
 
 // The masks select no record with mask number 0.
-fn lent(letter: u8, line: &[u8]) {
+fn call_on(letter: u8, line: &[u8]) {
     let t = records_of(line);
     let masks = [0xFFFFFFFEu32; 3];
     let table = front(&t, number_at(line, 1));
@@ -61,7 +61,7 @@ fn one(line: &[u8]) {
     match letter {
         b'#' => return,
         b'=' => say_title(line),
-        _ => lent(letter, line),
+        _ => call_on(letter, line),
     }
 }
 

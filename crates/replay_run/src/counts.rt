@@ -32,7 +32,7 @@ fn kind_place(k: Kind) -> usize
         Kind::Fresh => 3,
         Kind::Update => 4,
         Kind::Finish => 5,
-        Kind::Close => 6,
+        Kind::FinishReset => 6,
         Kind::OneShot => 7,
         Kind::Reset => 8,
         Kind::Unread => LAST,

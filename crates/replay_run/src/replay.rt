@@ -14,7 +14,7 @@ use crate::kind::kind_of;
 use crate::one::block;
 use crate::session::Took;
 use crate::session::at_once;
-use crate::session::closed;
+use crate::session::finish_reset;
 use crate::session::finished;
 use crate::session::fresh;
 use crate::session::unread;
@@ -36,7 +36,7 @@ fn lent_after(w: Words, k: Kind, line: &[u8]) -> Words {
         | Kind::Fresh
         | Kind::Update
         | Kind::Finish
-        | Kind::Close
+        | Kind::FinishReset
         | Kind::OneShot
         | Kind::Reset
         | Kind::Unread => w,
@@ -69,7 +69,7 @@ fn took(k: Kind, h: Hasher, line: &[u8], table: &[u32]) -> Took {
         Kind::Fresh => fresh(h, line),
         Kind::Update => updated(h, line, table),
         Kind::Finish => finished(h, line, table),
-        Kind::Close => closed(h, line, table),
+        Kind::FinishReset => finish_reset(h, line, table),
         Kind::OneShot => at_once(h, line, table),
         Kind::Reset => was_reset(h),
         Kind::Unread => unread(h),

@@ -163,7 +163,7 @@ pub(crate) fn finished(h: Hasher, line: &[u8], table: &[u32]) -> Took {
     }
 }
 
-pub(crate) fn closed(h: Hasher, line: &[u8], table: &[u32]) -> Took {
+pub(crate) fn finish_reset(h: Hasher, line: &[u8], table: &[u32]) -> Took {
     let lent = words_at(line, 1);
     let mut out = [0u8; 20];
     if !lent.good {

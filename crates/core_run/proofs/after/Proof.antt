@@ -3,10 +3,6 @@ use Prim.Native.Nat.{_-_, _≤_}
 use borrow.Author.Needs.{needs}
 use Rattle.core_run.proofs.after.Statement.{statement}
 use Rattle.core_run.proofs.after.Tie as tie
-use Rattle.core_run.proofs.after.Reads as reads
-use Rattle.core_run.proofs.after.Lts as lts
-use Rattle.core_run.proofs.run.Reads as run-reads
-use Rattle.core_run.proofs.start.Reads as start-reads
 
 abbrev Inv-loop : tie.InvT-loop
 Inv-loop m n table mode w₀ i₀ w i = i ≤ n
@@ -26,8 +22,8 @@ loop-holds : tie.Need-loop-holds Inv-loop μ-loop
 loop-holds c = search needs
 
 -- src/main.rt:169:13
-run-requires : tie.Need-run-requires Inv-loop μ-loop
-run-requires c κs = search needs
+nth-block-requires : tie.Need-nth-block-requires Inv-loop μ-loop
+nth-block-requires c κs = search needs
 
 -- src/main.rt:168:9
 add-i : tie.Need-add-i Inv-loop μ-loop
@@ -54,7 +50,7 @@ after-spec =
     mode-of-requires
     start-requires
     loop-holds
-    run-requires
+    nth-block-requires
     add-i
     loop-less
     loop-again

@@ -5,8 +5,8 @@ mod given;
 mod same;
 
 use call::at_once;
-use call::by_finish_reset;
 use call::by_finish;
+use call::by_finish_reset;
 use call::by_reset;
 use call::by_update;
 use call::in_place;

@@ -8,7 +8,7 @@ use lib.ListN.{length, take, drop, replicate, length-append, length-drop, drop-o
 use lib.Seq.{drop-drop, drop-append-add, length-take-le, take-length, paste, length-paste}
 use Rattle.octets.proofs.Zeros.{drop-replicate}
 use Rattle.flags.specs.declared.Flags.{Flags}
-use Rattle.stream.specs.Loan.{Loan, later}
+use Rattle.loan.specs.Loan.{Loan, later}
 use Rattle.stream.specs.Fold.{folded}
 use Rattle.stream.specs.declared.Chain.{Chain}
 use Rattle.stream.proofs.Folded.{folded-none, folded-join}

@@ -3,7 +3,7 @@ use mathlib.Core.List.{List, _++_}
 use Prim.Native.Nat.{ℕ, _*_, _/_}
 use lib.ListN.{length, take, drop}
 use Rattle.flags.specs.declared.Flags.{Flags}
-use Rattle.stream.specs.Loan.{Loan}
+use Rattle.loan.specs.Loan.{Loan}
 use Rattle.stream.specs.Fold.{folded}
 use Rattle.stream.specs.declared.Chain.{Chain}
 use Rattle.hasher.specs.Hasher.{chainOf, hasherAt}

@@ -2,15 +2,15 @@
 ghost use mathlib.Core.Path.{_≡_};
 ghost use Prim.Native.Nat.{_+_, _/_, _^_, _<_};
 ghost use lib.ListN.{length};
-ghost use Rattle.stream.specs.Loan.{loanOf};
+ghost use Rattle.loan.specs.Loan.{loanOf};
 ghost use Rattle.absorb.specs.Absorb.{advanced, absorbed};
 ghost use Rattle.absorb.specs.Ready.{Ready};
 use flags::Flags;
 use hasher::Hasher;
+use loan::masks_from;
 use octets::store;
 use stream::Chain;
 use stream::fold_blocks;
-use stream::masks_from;
 
 // The whole blocks of s compressed straight from it, from the chain c on, and the rest left pending.
 fn advance(flags: Flags, table: &[u32], c: Chain, s: &[u8], masks: &[u32]) -> Hasher

@@ -1,2 +1,2 @@
 pub mod Guards
-pub mod Keeps
+pub mod Lengths

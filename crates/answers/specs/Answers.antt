@@ -11,10 +11,6 @@ use Rattle.finish.specs.Finish.{outcomeRefusal}
 use Rattle.finish.specs.declared.Outcome.{Outcome}
 use Rattle.finish.specs.declared.Outcome.the-variants.{Done, Refused}
 use Rattle.finish.specs.declared.FinishedReset.{FinishedReset}
-use Rattle.sheet.specs.Compare.{comparedNumber}
-use Rattle.sheet.specs.declared.Comparison.the-variants.{Match, Differs, Absent}
-use Rattle.sheet.specs.declared.Compared.{Compared}
-use Rattle.sheet.specs.declared.Compared.the-variants.{Said}
 use Rattle.layout.specs.Layout.{bitOf, slicesOf, verdictNumber}
 
 -- the number that a call gives back, and the contents of the slices that it may write, in the order of its parameters
@@ -51,13 +47,6 @@ verdictIn (Refused r) = 0
 abbrev pub outcomeAnswer : Outcome → List ℕ
 outcomeAnswer o = answerPair (verdictIn o) (outcomeRefusal o)
 
--- the number of a comparison's answer, 0 on a refusal
-abbrev pub comparisonIn : Compared → ℕ
-comparisonIn (Said Match) = 1
-comparisonIn (Said Differs) = 2
-comparisonIn (Said Absent) = 3
-comparisonIn (Compared.Refused r) = 0
-
 -- what one block leaves where the words before were: the new words, or on a refusal those; mark, place, tried and the refused record's place
 abbrev pub blockLeft : OneBlock → List ℕ → Left
 blockLeft o before =
@@ -84,11 +73,3 @@ finishResetLeft c out =
 -- what a call leaves that says a refusal alone
 abbrev pub refusalLeft : Refusal → Left
 refusalLeft r = left (numberOf r) (answerPair 0 r ∷ [])
-
--- what a lookup leaves: where the part begins, and its length
-abbrev pub partLeft : Refusal → ℕ → ℕ → Left
-partLeft r from size = left (numberOf r) ((from ∷ size ∷ []) ∷ [])
-
--- what a comparison leaves
-abbrev pub comparedLeft : Compared → Left
-comparedLeft c = left (comparedNumber c) ((comparisonIn c ∷ 0 ∷ []) ∷ [])

@@ -5,31 +5,29 @@ ghost use lib.ListN.{length};
 ghost use Rattle.refusal.specs.Refusal.{numberOf};
 ghost use Rattle.verdict.specs.Verdict.{digestSize};
 ghost use Rattle.finish.specs.Finish.{outcomeRefusal};
-ghost use Rattle.sheet.specs.Compare.{comparedNumber};
-ghost use Rattle.answers.specs.Answers.{left, unlessRefused, answerPair, verdictIn, outcomeAnswer, comparisonIn, blockLeft, updatedLeft, digestLeft, finishResetLeft, comparedLeft};
+ghost use Rattle.answers.specs.Answers.{left, unlessRefused, answerPair, verdictIn, outcomeAnswer, blockLeft, updatedLeft, digestLeft, finishResetLeft};
+use copies::put_digest;
+use copies::put_four;
+use copies::put_two;
+use copies::put_words;
 use detect::OneBlock;
 use finish::FinishedReset;
 use finish::Outcome;
 use hasher::Updated;
-use layout::DIGEST_SIZE;
 use layout::bit_of;
-use layout::put_digest;
-use layout::put_four;
 use layout::put_hasher;
-use layout::put_two;
-use layout::put_words;
 use layout::verdict_number;
 use refusal::Refusal;
 use refusal::is_nothing;
 use refusal::number;
 use refusal::place;
-use sheet::Compared;
-use sheet::Comparison;
+use verdict::DIGEST_SIZE;
 
 // The number where a caller breaks the header's agreement on lengths, marks, flags and verdicts: no other number is
 // above 16. A call then changes nothing.
 pub const BROKEN_AGREEMENT: u32 = 255;
 
+// What an outcome refuses.
 fn refusal_in(o: Outcome) -> Refusal
     ensures { λ r. ⌜ r ≡ outcomeRefusal o ⌝ }
 {
@@ -39,34 +37,13 @@ fn refusal_in(o: Outcome) -> Refusal
     }
 }
 
+// The number of an outcome's verdict: 0 on a refusal.
 fn verdict_in(o: Outcome) -> u64
     ensures { λ r. ⌜ r ≡ verdictIn o ⌝ }
 {
     match o {
         Outcome::Done(v) => verdict_number(v),
         Outcome::Refused(_) => 0,
-    }
-}
-
-fn comparison_in(c: Compared) -> u64
-    ensures { λ r. ⌜ r ≡ comparisonIn c ⌝ }
-{
-    match c {
-        Compared::Said(a) => match a {
-            Comparison::Match => 1,
-            Comparison::Differs => 2,
-            Comparison::Absent => 3,
-        },
-        Compared::Refused(_) => 0,
-    }
-}
-
-fn compared_number(c: Compared) -> u32
-    ensures { λ r. ⌜ r ≡ comparedNumber c ⌝ }
-{
-    match c {
-        Compared::Said(_) => 0,
-        Compared::Refused(r) => number(r),
     }
 }
 
@@ -170,13 +147,4 @@ pub fn leave_finish_reset(
     let outcome = c.outcome;
     put_hasher(words, pending, state, h);
     put_outcome(answer, outcome)
-}
-
-// What a comparison leaves: its answer's number, and 0 where other calls have a place.
-pub fn leave_compared(answer: &mut [u64], c: Compared) -> u32
-    requires { ⌜ length (now answer) ≡ 2 ⌝ }
-    ensures { λ r. ⌜ left r (now (answer .exit) ∷ []) ≡ comparedLeft c ⌝ }
-{
-    put_two(answer, comparison_in(c), 0);
-    compared_number(c)
 }

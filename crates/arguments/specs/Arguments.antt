@@ -32,17 +32,19 @@ kindOf arg = pick (namesTable arg) Table (pick (sameBytes arg rawSign) Raw Unkno
 abbrev pub nameOf : List ℕ → List ℕ
 nameOf arg = drop 6 arg
 
--- whether a kind is the one asked
+-- whether an argument names a table
 abbrev pub isTable : ArgumentKind → Bool
 isTable Table = true
 isTable Raw = false
 isTable Unknown = false
 
+-- whether an argument is `raw`
 abbrev pub isRaw : ArgumentKind → Bool
 isRaw Table = false
 isRaw Raw = true
 isRaw Unknown = false
 
+-- whether an argument is of no known kind
 abbrev pub isUnknown : ArgumentKind → Bool
 isUnknown Table = false
 isUnknown Raw = false

@@ -8,7 +8,7 @@ use lib.Dec.{eqb}
 use lib.ListN.{length, getD, drop, drop-of-length-le}
 use lib.Seq.{drop-cons}
 use Rattle.word.specs.Choice.{pick}
-use Rattle.cases.specs.Lines.{untilByte, oneIf, countOf}
+use Rattle.cases.specs.Lines.{untilByte, oneIf, occurrences}
 use Rattle.cases.specs.Numbers.{withDigit, decimalFrom}
 
 until-cons : (b x : ℕ) (xs : List ℕ) → untilByte b (x ∷ xs) ≡ pick (eqb x b) 0 (suc (untilByte b xs))
@@ -19,12 +19,12 @@ until-nil : (b : ℕ) → untilByte b [] ≡ 0
 unfolding untilByte
 until-nil b = refl
 
-count-cons : (b x : ℕ) (xs : List ℕ) → countOf b (x ∷ xs) ≡ oneIf x b + countOf b xs
-unfolding countOf
+count-cons : (b x : ℕ) (xs : List ℕ) → occurrences b (x ∷ xs) ≡ oneIf x b + occurrences b xs
+unfolding occurrences
 count-cons b x xs = refl
 
-count-nil : (b : ℕ) → countOf b [] ≡ 0
-unfolding countOf
+count-nil : (b : ℕ) → occurrences b [] ≡ 0
+unfolding occurrences
 count-nil b = refl
 
 decimal-cons : (n x : ℕ) (xs : List ℕ) → decimalFrom n (x ∷ xs) ≡ decimalFrom (withDigit n x) xs
@@ -52,8 +52,8 @@ module _ (s : List ℕ) (i : ℕ) where
     pub until-end : length s ≤ i → untilByte b (drop i s) ≡ 0
     until-end h = rw (drop-of-length-le s h, until-nil)
 
-    pub count-step : i < length s → countOf b (drop i s) ≡ oneIf (getD s i 0) b + countOf b (drop (i + 1) s)
+    pub count-step : i < length s → occurrences b (drop i s) ≡ oneIf (getD s i 0) b + occurrences b (drop (i + 1) s)
     count-step h = rw (drop-cons s i 0 h, count-cons, add-one i)
 
-    pub count-end : length s ≤ i → countOf b (drop i s) ≡ 0
+    pub count-end : length s ≤ i → occurrences b (drop i s) ≡ 0
     count-end h = rw (drop-of-length-le s h, count-nil)

@@ -16,20 +16,20 @@ decimalFrom n [] = n
 decimalFrom n (digit ∷ digits) = decimalFrom (withDigit n digit) digits
 
 -- the number of some decimal digits
-abbrev pub decimalOf : List ℕ → ℕ
-decimalOf digits = decimalFrom 0 digits
+abbrev pub decimalValue : List ℕ → ℕ
+decimalValue digits = decimalFrom 0 digits
 
 -- field i as a number
 abbrev pub numberAt : List ℕ → ℕ → ℕ
-numberAt line i = decimalOf (fieldOf line i)
+numberAt line i = decimalValue (fieldOf line i)
 
 -- field i as a word
-abbrev pub wordAt : List ℕ → ℕ → ℕ
-wordAt line i = numberAt line i % 0x100000000
+abbrev pub wordField : List ℕ → ℕ → ℕ
+wordField line i = numberAt line i % 0x100000000
 
 -- 1 detect, 2 mitigate, 4 masks lent, 8 reduced-round
-abbrev pub flagsOf : ℕ → Flags
-flagsOf bits =
+abbrev pub flagsOfBits : ℕ → Flags
+flagsOfBits bits =
     record {
       detect = eqb (bits % 2) 1;
       mitigate = eqb (bits / 2 % 2) 1;

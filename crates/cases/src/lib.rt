@@ -3,8 +3,10 @@ ghost use mathlib.Core.Path.{_≡_};
 ghost use Prim.Native.Nat.{_≤_, _<_};
 ghost use lib.ListN.{length, take};
 ghost use Rattle.io.specs.Counts.{Counts};
-ghost use Rattle.cases.specs.Lines.{space, newline, oneIf, countOf, foundAt, placeAfter, startOf, fieldOf, restOf, lineAt};
-ghost use Rattle.cases.specs.Numbers.{withDigit, decimalOf, numberAt, wordAt, flagsOf};
+ghost use Rattle.stream.specs.Fold.{modeOf};
+ghost use Rattle.cases.specs.Lines.{fieldEnd, lineEnd, oneIf, occurrences, foundAt, placeAfter, startOf, fieldOf, fromField, lineAt};
+ghost use Rattle.cases.specs.Numbers.{withDigit, decimalValue, numberAt, wordField, flagsOfBits};
+use detect::Mode;
 use flags::Flags;
 use printing::say;
 
@@ -50,7 +52,7 @@ fn one_if(x: u8, b: u8) -> usize
 
 // How many spaces a line has.
 pub fn spaces(line: &[u8]) -> usize
-    ensures { λ r. ⌜ r ≡ countOf space (now (line .entry)) ⌝ }
+    ensures { λ r. ⌜ r ≡ occurrences fieldEnd (now (line .entry)) ⌝ }
 {
     let mut n = 0;
     for i in 0..line.len() {
@@ -80,9 +82,9 @@ pub fn field(line: &[u8], i: usize) -> &[u8]
     &line[from..to]
 }
 
-// What stands behind the i-th space: a case's name, which may have spaces of its own.
-pub fn rest_of(line: &[u8], i: usize) -> &[u8]
-    ensures { λ r. ⌜ now r ≡ restOf (now (line .entry)) i ⌝ }
+// The line from field i to its end, which stands behind the i-th space: a case's name, which may have spaces of its own.
+pub fn from_field(line: &[u8], i: usize) -> &[u8]
+    ensures { λ r. ⌜ now r ≡ fromField (now (line .entry)) i ⌝ }
 {
     let from = start_of(line, i);
     &line[from..]
@@ -90,7 +92,7 @@ pub fn rest_of(line: &[u8], i: usize) -> &[u8]
 
 // What a title's line says.
 pub fn say_title(line: &[u8]) {
-    say(rest_of(line, 1));
+    say(from_field(line, 1));
     say(b"\n");
 }
 
@@ -106,7 +108,7 @@ pub fn line_at(text: &[u8], at: usize) -> &[u8]
 // Where the next line starts: further on, at most at the end.
 pub fn next_line(text: &[u8], at: usize) -> usize
     requires { ⌜ at < length (now text) ⌝ }
-    ensures { λ r. ⌜ r ≡ placeAfter (now (text .entry)) (foundAt (now (text .entry)) at newline) ⌝ }
+    ensures { λ r. ⌜ r ≡ placeAfter (now (text .entry)) (foundAt (now (text .entry)) at lineEnd) ⌝ }
     ensures { λ r. ⌜ (at < r) × (r ≤ length (now (text .entry))) ⌝ }
 {
     after(text, find(text, at, b'\n'))
@@ -127,7 +129,7 @@ fn with_digit(n: usize, digit: u8) -> usize
 
 // The number of some decimal digits.
 fn decimal(digits: &[u8]) -> usize
-    ensures { λ r. ⌜ r ≡ decimalOf (now (digits .entry)) ⌝ }
+    ensures { λ r. ⌜ r ≡ decimalValue (now (digits .entry)) ⌝ }
 {
     let mut n = 0;
     for i in 0..digits.len() {
@@ -144,21 +146,31 @@ pub fn number_at(line: &[u8], i: usize) -> usize
 }
 
 // Field i as a word.
-pub fn word_at(line: &[u8], i: usize) -> u32
-    ensures { λ r. ⌜ r ≡ wordAt (now (line .entry)) i ⌝ }
+pub fn word_field(line: &[u8], i: usize) -> u32
+    ensures { λ r. ⌜ r ≡ wordField (now (line .entry)) i ⌝ }
 {
     (number_at(line, i) % 0x100000000) as u32
 }
 
 // The flags of four bits: 1 detect, 2 mitigate, 4 masks lent, 8 reduced-round.
-pub fn flags_of(bits: usize) -> Flags
-    ensures { λ r. ⌜ r ≡ flagsOf bits ⌝ }
+pub fn flags_of_bits(bits: usize) -> Flags
+    ensures { λ r. ⌜ r ≡ flagsOfBits bits ⌝ }
 {
     Flags::new()
         .detect_collision(bits % 2 == 1)
         .safe_hash(bits / 2 % 2 == 1)
         .use_ubc(bits / 4 % 2 == 1)
         .reduced_round_collision(bits / 8 % 2 == 1)
+}
+
+// Of the flags' bits a block is told two: 2 mitigate, 8 reduced-round.
+pub fn mode_of_bits(bits: usize) -> Mode
+    ensures { λ r. ⌜ r ≡ modeOf (flagsOfBits bits) ⌝ }
+{
+    Mode {
+        mitigate: bits / 2 % 2 == 1,
+        reduced: bits / 8 % 2 == 1,
+    }
 }
 
 // The first n of some words, or all of them.
@@ -193,7 +205,7 @@ fn controls() -> [u32; MOST_TABLE]
 }
 
 // The records with one word changed.
-fn with_word(t: [u32; MOST_TABLE], at: usize, x: u32) -> [u32; MOST_TABLE]
+fn with_record_word(t: [u32; MOST_TABLE], at: usize, x: u32) -> [u32; MOST_TABLE]
     requires { ⌜ 2706 ≡ length t ⌝ }
     ensures { λ r. ⌜ 2706 ≡ length r ⌝ }
 {
@@ -209,8 +221,8 @@ fn with_word(t: [u32; MOST_TABLE], at: usize, x: u32) -> [u32; MOST_TABLE]
 pub fn records_of(line: &[u8]) -> [u32; MOST_TABLE]
     ensures { λ r. ⌜ 2706 ≡ length r ⌝ }
 {
-    let t = with_word(controls(), number_at(line, 2), word_at(line, 3));
-    with_word(t, number_at(line, 4), word_at(line, 5))
+    let t = with_record_word(controls(), number_at(line, 2), word_field(line, 3));
+    with_record_word(t, number_at(line, 4), word_field(line, 5))
 }
 
 // Room for a text.
@@ -235,7 +247,7 @@ pub fn read(path: &[u8], buf: &mut [u8]) -> usize
 }
 
 // Fills the buffer from a file, or says that it could not.
-pub fn load(path: &[u8], buf: &mut [u8]) {
+pub fn fill_from(path: &[u8], buf: &mut [u8]) {
     if read(path, buf) < buf.len() {
         say(b"short file\n");
     }

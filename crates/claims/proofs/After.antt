@@ -5,7 +5,7 @@ use mathlib.Core.List.{List}
 use Prim.Native.Nat.{ℕ}
 use Rattle.refusal.proofs.Passed.{of-refusal}
 use Rattle.flags.specs.declared.Flags.{Flags}
-use Rattle.stream.specs.Loan.{Loan, lookedAt}
+use Rattle.loan.specs.Loan.{Loan, lookedAt}
 use Rattle.stream.specs.Fold.{folded}
 use Rattle.stream.specs.declared.Chain.{Chain}
 use Rattle.stream.proofs.Folded.{folded-is}

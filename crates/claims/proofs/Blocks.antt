@@ -10,7 +10,7 @@ use lib.Seq.{getD-drop}
 use Rattle.block.specs.Compress.{compressOf}
 use Rattle.detect.specs.Detect.{answerOf}
 use Rattle.flags.specs.declared.Flags.{Flags}
-use Rattle.stream.specs.Loan.{Tables}
+use Rattle.loan.specs.Loan.{Tables}
 use Rattle.stream.specs.Fold.{allBits, blockOf, checkedOf, plainOf, chained}
 use Rattle.stream.specs.declared.Chain.{Chain}
 use Rattle.stream.proofs.Folds.{chained-zero, chained-suc, chained-add}

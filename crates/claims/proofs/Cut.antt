@@ -11,14 +11,14 @@ use Rattle.verdict.specs.declared.Verdict.{Verdict}
 use Rattle.fips.specs.Fips.{padded, initial}
 use Rattle.flags.specs.Flags.{usesMasks}
 use Rattle.flags.specs.declared.Flags.{Flags}
-use Rattle.stream.specs.Loan.{Tables, Loan, lend}
+use Rattle.loan.specs.Loan.{Tables, Loan, lend}
 use Rattle.hasher.specs.Hasher.{wellFormed}
 use Rattle.hasher.specs.declared.Hasher.{Hasher}
 use Rattle.update.specs.Update.{updateRefusal, updated}
 use Rattle.update.proofs.Taken.{update-taken, taken-update}
 use Rattle.finish.specs.declared.Outcome.the-variants.{Done}
 use Rattle.claims.specs.Sound.{Sized}
-use Rattle.claims.specs.Pieces.{Piece, bytesOf, lentMasks, piecewise, hashed, blockMasks, NoneRefused, Counted}
+use Rattle.claims.specs.Pieces.{Piece, bytesOf, pieceMasks, piecewise, hashed, blockMasks, NoneRefused, Counted}
 use Rattle.claims.specs.Marked.{markedBy, againBy, wholeBlocks}
 use Rattle.claims.proofs.Below.{anyBelow}
 use Rattle.claims.proofs.Unmarked.{atBlock}
@@ -29,18 +29,18 @@ use Rattle.claims.proofs.Whole.{hashed-is}
 module _ (h : Hasher) (size : Sized h) (t : Tables) where
   -- Updates piece by piece, none refused, give the same hasher and refusal as one update with everything joined.
   pub cut-joined : (p : Piece) (ps : List Piece) → piecewise h t (p ∷ ps) .refusal ≡ Nothing
-      → piecewise h t (p ∷ ps) ≡ updated h (bytesOf (p ∷ ps)) (lend t (lentMasks (p ∷ ps)))
+      → piecewise h t (p ∷ ps) ≡ updated h (bytesOf (p ∷ ps)) (lend t (pieceMasks (p ∷ ps)))
   cut-joined p ps e =
       let a = pieces-taken p ps h t size e in
-      pieces-absorbed (p ∷ ps) h t size (a .well) e ∙ sym (taken-update h (bytesOf (p ∷ ps)) (lend t (lentMasks (p ∷ ps))) a)
+      pieces-absorbed (p ∷ ps) h t size (a .well) e ∙ sym (taken-update h (bytesOf (p ∷ ps)) (lend t (pieceMasks (p ∷ ps))) a)
 
   -- What one update takes can be cut anywhere: with each block's mask in its turn no piece is refused.
   pub cut-anywhere : (p : Piece) (ps : List Piece) → (usesMasks (h .flags) ≡ true → Counted (h .fill) (p ∷ ps))
-      → updated h (bytesOf (p ∷ ps)) (lend t (lentMasks (p ∷ ps))) .refusal ≡ Nothing
-      → piecewise h t (p ∷ ps) ≡ updated h (bytesOf (p ∷ ps)) (lend t (lentMasks (p ∷ ps)))
+      → updated h (bytesOf (p ∷ ps)) (lend t (pieceMasks (p ∷ ps))) .refusal ≡ Nothing
+      → piecewise h t (p ∷ ps) ≡ updated h (bytesOf (p ∷ ps)) (lend t (pieceMasks (p ∷ ps)))
   cut-anywhere p ps counts e =
-      let a = update-taken h (bytesOf (p ∷ ps)) (lend t (lentMasks (p ∷ ps))) e in
-      let r : Fitting h t (p ∷ ps) = record { sound = record { size = size; well = a .well }; good = taken-accepted h (bytesOf (p ∷ ps)) (lend t (lentMasks (p ∷ ps))) a .good; counts = counts } in
+      let a = update-taken h (bytesOf (p ∷ ps)) (lend t (pieceMasks (p ∷ ps))) e in
+      let r : Fitting h t (p ∷ ps) = record { sound = record { size = size; well = a .well }; good = taken-accepted h (bytesOf (p ∷ ps)) (lend t (pieceMasks (p ∷ ps))) a .good; counts = counts } in
       cut-joined p ps (pieces-pass (p ∷ ps) h t r (a .fits))
 
   -- No piece at all is as an update of no bytes, and that changes nothing.

@@ -6,7 +6,7 @@ use Prim.Native.Nat.{ℕ, _-_, _/_, _≤_}
 use native.Mathlib.Omega.{arith}
 use lib.ListN.{length, take, drop, length-drop, take-append-drop}
 use lib.Seq.{length-take-le}
-use Rattle.stream.specs.Loan.{Loan}
+use Rattle.loan.specs.Loan.{Loan}
 use Rattle.stream.proofs.Folded.{folded-none}
 use Rattle.hasher.specs.Hasher.{allZero, wellFormed, chainOf, zeroed}
 use Rattle.hasher.specs.declared.Hasher.{Hasher}

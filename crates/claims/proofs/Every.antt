@@ -16,8 +16,8 @@ use Rattle.fips.specs.Tail.{tailBlocks}
 use Rattle.flags.specs.Flags.{usesMasks}
 use Rattle.flags.specs.declared.Flags.{Flags}
 use Rattle.flags.specs.declared.Masks.the-variants.{All}
-use Rattle.stream.specs.Loan.{Tables, lend, tablesRefusal}
-use Rattle.stream.proofs.Loans.{accepted-loan}
+use Rattle.loan.specs.Loan.{Tables, lend, tablesRefusal}
+use Rattle.loan.proofs.Loans.{accepted-loan}
 use Rattle.hasher.specs.Hasher.{freshOf}
 use Rattle.hasher.specs.declared.Hasher.{Hasher}
 use Rattle.finish.specs.declared.Finished.{Finished}

@@ -16,9 +16,9 @@ use Rattle.fips.specs.Tail.{tailBlocks}
 use Rattle.fips.proofs.Padded.{tail-is}
 use Rattle.flags.specs.Flags.{defaults}
 use Rattle.flags.specs.declared.Flags.{Flags}
-use Rattle.stream.specs.Loan.{Tables, Loan}
+use Rattle.loan.specs.Loan.{Tables, Loan}
 use Rattle.stream.specs.Fold.{firstChain, folded}
-use Rattle.stream.proofs.Loans.{loan-accepted}
+use Rattle.loan.proofs.Loans.{loan-accepted}
 use Rattle.hasher.specs.Hasher.{taken, chainOf}
 use Rattle.hasher.specs.declared.Hasher.{Hasher}
 use Rattle.hasher.specs.declared.Updated.{Updated}

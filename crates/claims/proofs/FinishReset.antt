@@ -5,7 +5,7 @@ use Prim.Native.Nat.{ℕ}
 use lib.ListN.{length}
 use Rattle.refusal.specs.declared.Refusal.the-variants.{Nothing}
 use Rattle.verdict.specs.Verdict.{digestSize}
-use Rattle.stream.specs.Loan.{Loan}
+use Rattle.loan.specs.Loan.{Loan}
 use Rattle.hasher.specs.Hasher.{resetOf}
 use Rattle.hasher.specs.declared.Hasher.{Hasher}
 use Rattle.finish.specs.Finish.{finishRefusal, finished, finishedReset, writtenOut}

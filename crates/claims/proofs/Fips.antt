@@ -6,7 +6,7 @@ use Prim.Native.Nat.{ℕ, _<_}
 use Rattle.step.specs.declared.Regs.{Regs}
 use Rattle.fips.specs.Fips.{padded, initial, digestOf, sha1}
 use Rattle.flags.specs.declared.Flags.{Flags}
-use Rattle.stream.specs.Loan.{Tables}
+use Rattle.loan.specs.Loan.{Tables}
 use Rattle.finish.specs.declared.Finished.{Finished}
 use Rattle.claims.specs.Pieces.{Piece, bytesOf, hashed, loanOfAll, blockMasks, NoneRefused}
 use Rattle.claims.specs.Marked.{markedBy, againBy, blocksIn, sha1Marked, markedAt, NoneMarked}

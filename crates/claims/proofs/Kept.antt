@@ -7,7 +7,7 @@ use Rattle.refusal.specs.Refusal.{isNothing}
 use Rattle.refusal.specs.declared.Refusal.the-variants.{Nothing}
 use Rattle.word.proofs.Tests.{of-either}
 use Rattle.flags.specs.declared.Flags.{Flags}
-use Rattle.stream.specs.Loan.{Tables, Loan}
+use Rattle.loan.specs.Loan.{Tables, Loan}
 use Rattle.hasher.specs.Hasher.{allZero, wellFormed, chainOf, freshOf, resetOf}
 use Rattle.hasher.specs.declared.Hasher.{Hasher}
 use Rattle.absorb.specs.Absorb.{streamOf}

@@ -12,7 +12,7 @@ use Rattle.refusal.specs.declared.Refusal.the-variants.{Nothing, MessageLength}
 use Rattle.fips.specs.Fips.{mostBytes}
 use Rattle.flags.specs.Flags.{usesMasks}
 use Rattle.flags.specs.declared.Flags.{Flags}
-use Rattle.stream.specs.Loan.{Tables, Loan, tablesRefusal}
+use Rattle.loan.specs.Loan.{Tables, Loan, tablesRefusal}
 use Rattle.hasher.specs.Hasher.{wellFormed, taken, freshOf}
 use Rattle.hasher.specs.declared.Hasher.{Hasher}
 use Rattle.hasher.proofs.Formed.{formed}

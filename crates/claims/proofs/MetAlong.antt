@@ -12,7 +12,7 @@ use Rattle.step.specs.declared.Regs.{Regs}
 use Rattle.table.proofs.Good.{accepted}
 use Rattle.detect.specs.Detect.{answerOf}
 use Rattle.flags.specs.declared.Flags.{Flags}
-use Rattle.stream.specs.Loan.{Loan, lookedAt, tablesRefusal}
+use Rattle.loan.specs.Loan.{Loan, lookedAt, tablesRefusal}
 use Rattle.stream.specs.Fold.{modeOf, folded}
 use Rattle.stream.specs.declared.Chain.{Chain}
 use Rattle.claims.specs.Sound.{TypedTables, TablesGood}

@@ -9,13 +9,13 @@ use lib.ListN.{length, length-append}
 use Rattle.refusal.specs.declared.Refusal.the-variants.{Nothing}
 use Rattle.flags.specs.Flags.{usesMasks, defaults}
 use Rattle.flags.specs.declared.Flags.{Flags}
-use Rattle.stream.specs.Loan.{Tables, lend}
-use Rattle.stream.proofs.Loans.{AcceptedLoan, loan-accepted, accepted-loan}
+use Rattle.loan.specs.Loan.{Tables, lend}
+use Rattle.loan.proofs.Loans.{AcceptedLoan, loan-accepted, accepted-loan}
 use Rattle.hasher.specs.Hasher.{freshOf}
 use Rattle.update.specs.Update.{updated}
 use Rattle.one_shot.specs.Whole.{blocksOf, wholeRefusal, wholeOf, digested}
 use Rattle.one_shot.proofs.Fed.{refusal-whole, whole-refusal}
-use Rattle.claims.specs.Pieces.{Piece, bytesOf, lentMasks, taking, hashed, inTwo, loanOfAll, NoneRefused, InTurn}
+use Rattle.claims.specs.Pieces.{Piece, bytesOf, pieceMasks, taking, hashed, inTwo, loanOfAll, NoneRefused, InTurn}
 use Rattle.claims.proofs.Kept.{fresh-sound}
 use Rattle.claims.proofs.Cut.{cut-joined}
 use Rattle.claims.proofs.Whole.{masks-counted, short-is, last-accepted, hashed-by}
@@ -36,7 +36,7 @@ module _ (f : Flags) (t : Tables) (ps : List Piece) (last : List ℕ) where
               counts = λ u.
                   let m = masks-counted f t ps e u in
                   let n = a .counts u in
-                  omega (arith, length-append (lentMasks ps) last);
+                  omega (arith, length-append (pieceMasks ps) last);
               good = a .good;
             });
       })

@@ -11,8 +11,8 @@ use Rattle.refusal.specs.declared.Refusal.the-variants.{Nothing}
 use Rattle.word.proofs.Tests.{of-either}
 use Rattle.fips.specs.Fips.{mostBytes}
 use Rattle.flags.specs.Flags.{usesMasks}
-use Rattle.stream.specs.Loan.{Tables, Loan, lend, tablesRefusal}
-use Rattle.stream.proofs.Loans.{AcceptedLoan, loan-accepted, accepted-loan}
+use Rattle.loan.specs.Loan.{Tables, Loan, lend, tablesRefusal}
+use Rattle.loan.proofs.Loans.{AcceptedLoan, loan-accepted, accepted-loan}
 use Rattle.refusal.proofs.Passed.{of-refusal}
 use Rattle.hasher.specs.Hasher.{wellFormed, taken}
 use Rattle.hasher.specs.declared.Hasher.{Hasher}
@@ -24,7 +24,7 @@ use Rattle.absorb.proofs.Moves.{stream-long}
 use Rattle.update.proofs.Taken.{Taken, update-taken, taken-update}
 use Rattle.update.proofs.Absorbed.{flags-after, fill-after, taken-after, formed-after}
 use Rattle.claims.specs.Sound.{Sized, Sound}
-use Rattle.claims.specs.Pieces.{Piece, bytesOf, lentMasks, piecewise, Counted}
+use Rattle.claims.specs.Pieces.{Piece, bytesOf, pieceMasks, piecewise, Counted}
 use Rattle.claims.proofs.Updates.{absorb-cut}
 use Rattle.claims.proofs.After.{sized-after}
 use Rattle.claims.proofs.Empty.{absorb-none}
@@ -90,15 +90,15 @@ taken-cut h t d e ms ns long a b =
     }
 
 pub pieces-taken : (p : Piece) (ps : List Piece) (h : Hasher) (t : Tables) → Sized h → piecewise h t (p ∷ ps) .refusal ≡ Nothing
-    → Taken h (bytesOf (p ∷ ps)) (lend t (lentMasks (p ∷ ps)))
+    → Taken h (bytesOf (p ∷ ps)) (lend t (pieceMasks (p ∷ ps)))
 pieces-taken p [] h t size e = rw (append-nil (p .bytes), append-nil (p .masks)) (first-taken h t p [] e)
 pieces-taken p (q ∷ ps) h t size e =
     let a = first-taken h t p (q ∷ ps) e in
     let i = pieces-taken q ps _ t (sized-after h (p .bytes) (lentWith t p)) (rw (piecewise-next h t p (q ∷ ps) a) at e) in
-    taken-cut h t (p .bytes) (bytesOf (q ∷ ps)) (p .masks) (lentMasks (q ∷ ps)) (size .pending-size) a i
+    taken-cut h t (p .bytes) (bytesOf (q ∷ ps)) (p .masks) (pieceMasks (q ∷ ps)) (size .pending-size) a i
 
 pub pieces-absorbed : (ps : List Piece) (h : Hasher) (t : Tables) → Sized h → wellFormed h ≡ true → piecewise h t ps .refusal ≡ Nothing
-    → piecewise h t ps ≡ record { refusal = Nothing; hasher = absorbed h (bytesOf ps) (lend t (lentMasks ps)) }
+    → piecewise h t ps ≡ record { refusal = Nothing; hasher = absorbed h (bytesOf ps) (lend t (pieceMasks ps)) }
 pieces-absorbed [] h t size well e = rw (piecewise-nil h t, absorb-none h size well (lend t []))
 pieces-absorbed (p ∷ ps) h t size well e =
     let a = first-taken h t p ps e in
@@ -107,7 +107,7 @@ pieces-absorbed (p ∷ ps) h t size well e =
     let lent = taken-accepted h (p .bytes) (lentWith t p) a in
     n
     ∙ pieces-absorbed ps _ t (sized-after h (p .bytes) (lentWith t p)) (formed-after h (p .bytes) (lentWith t p) (size .pending-size) a) (rw n at e)
-    ∙ rw (absorb-cut h t (p .bytes) (bytesOf ps) (p .masks) (lentMasks ps) (λ u. rw l (lent .counts u)))
+    ∙ rw (absorb-cut h t (p .bytes) (bytesOf ps) (p .masks) (pieceMasks ps) (λ u. rw l (lent .counts u)))
 
 -- pieces of which only the length can be refused: the hasher is sound, the tables good, and there is a mask for each block
 pub record Fitting (h : Hasher) (t : Tables) (ps : List Piece) : Type 0 where

@@ -1,6 +1,6 @@
 -- 01's table of numbers, line by line: for each entry point, each number is given exactly when the table says so, in the
 -- order of 01, and no other number; and then nothing has changed. What is refused of a loan, 6 and the table's numbers, is said once, in
--- stream/proofs/Loans (`loan-0`, `-6`, `-table`, `-gives`, `-only`): here it stands behind the tests of each call. Lines 2 to 5 are those
+-- loan/proofs/Loans (`loan-0`, `-6`, `-table`, `-gives`, `-only`): here it stands behind the tests of each call. Lines 2 to 5 are those
 -- of the table's check, `tableFault`: `is-2` of table/proofs/Faults, `line-3`, `-4` and `-5` of table/proofs/Lines. Assumes nothing.
 use mathlib.Core.Path.{_≡_, refl, sym, ap, _∙_, subst}
 use mathlib.Core.Logic.{_↔_, Iff·rfl, Iff·trans, Iff·and}
@@ -16,7 +16,7 @@ use Rattle.word.proofs.Tests.{of-either}
 use Rattle.refusal.specs.Refusal.{numberOf, isNothing, tableNumbers, oneOf}
 use Rattle.refusal.specs.declared.Refusal.{Refusal}
 use Rattle.refusal.specs.declared.Refusal.the-variants.{Nothing, HasherForm, MessageLength, Size}
-use Rattle.refusal.proofs.Chains.{Says, decided, negated, less, equal, first-exactly, inside-exactly, last-exactly, inside-is, place-none}
+use Rattle.refusal.proofs.Chains.{Decides, decided, negated, less, equal, first-exactly, inside-exactly, last-exactly, inside-is, place-none}
 use Rattle.refusal.proofs.Numbers.{within, apart, Among, over, InFront, in-front}
 use Rattle.refusal.proofs.Passed.{of-refusal}
 use Rattle.verdict.specs.Verdict.{digestSize}
@@ -32,8 +32,8 @@ use Rattle.fips.specs.Fips.{mostBytes}
 use Rattle.fips.specs.Tail.{tailBlocks}
 use Rattle.flags.specs.Flags.{defaults}
 use Rattle.flags.specs.declared.Flags.{Flags}
-use Rattle.stream.specs.Loan.{Loan, loanRefusal, loanNumbers, WellCounted, Miscounted, VectorsGive, GoodLoan}
-use Rattle.stream.proofs.Loans.{loan-0, loan-6, loan-table, loan-gives, loan-only}
+use Rattle.loan.specs.Loan.{Loan, loanRefusal, loanNumbers, WellCounted, Miscounted, VectorsGive, GoodLoan}
+use Rattle.loan.proofs.Loans.{loan-0, loan-6, loan-table, loan-gives, loan-only}
 use Rattle.hasher.specs.Hasher.{wellFormed, taken, freshOf, resetOf}
 use Rattle.hasher.specs.declared.Hasher.{Hasher}
 use Rattle.hasher.specs.declared.Updated.{Updated}
@@ -46,20 +46,16 @@ use Rattle.in_place.specs.InPlace.{InPlace}
 use Rattle.claims.specs.Refusals.{WellFormed}
 use Rattle.claims.proofs.Formed.{well-formed}
 
--- the tests, and what they say
-well-says : (h : Hasher) → Says (wellFormed h) (WellFormed h) (WellFormed h → ⊥)
-well-says h = decided (wellFormed h) (WellFormed h) (well-formed h)
+-- the tests, and what they decide
+well-decides : (h : Hasher) → Decides (wellFormed h) (WellFormed h) (WellFormed h → ⊥)
+well-decides h = decided (wellFormed h) (WellFormed h) (well-formed h)
 
-form-says : (h : Hasher) → Says (not (wellFormed h)) (WellFormed h → ⊥) (WellFormed h)
-form-says h = negated (well-says h)
+form-decides : (h : Hasher) → Decides (not (wellFormed h)) (WellFormed h → ⊥) (WellFormed h)
+form-decides h = negated (well-decides h)
 
 -- a number of the table is one that a loan can give
 of-table : (n : ℕ) → oneOf tableNumbers n ≡ true → oneOf (0 ∷ loanNumbers) n ≡ true
 of-table n = within (0 ∷ loanNumbers) tableNumbers n refl
-
--- a table gives none but these
-pub table-only : (table : List ℕ) → oneOf (0 ∷ tableNumbers) (numberOf (tableFault table)) ≡ true
-table-only = fault-numbers
 
 -- what each line of the table says of the refusal r of a call that refuses 1, then by a test of its own, then of its loan
 record Lines (r : Refusal) (h : Hasher) (own : ℕ) (P Q : Type 0) (l : Loan) (blocks : ℕ) : Type 1 where
@@ -71,13 +67,13 @@ record Lines (r : Refusal) (h : Hasher) (own : ℕ) (P Q : Type 0) (l : Loan) (b
   among : Among (1 ∷ own ∷ 0 ∷ loanNumbers) r
 
 -- the chain of an update and of a finish-and-reset: the number of the test of its own is no other's
-lines : (h : Hasher) {b : Bool} {P Q : Type 0} → Says b P Q → (own : Refusal) (l : Loan) (blocks : ℕ) → oneOf (0 ∷ loanNumbers) (numberOf own) ≡ false
+lines : (h : Hasher) {b : Bool} {P Q : Type 0} → Decides b P Q → (own : Refusal) (l : Loan) (blocks : ℕ) → oneOf (0 ∷ loanNumbers) (numberOf own) ≡ false
     → oneOf (numberOf own ∷ 0 ∷ loanNumbers) 1 ≡ false → (r : Refusal) → r ≡ pick (not (wellFormed h)) HasherForm (pick b own (loanRefusal (h .flags) l blocks))
     → Lines r h (numberOf own) P Q l blocks
 lines h {b = b} {P = P} {Q = Q} says own l blocks other late r e =
     let s = loanRefusal (h .flags) l blocks in
     let inner = in-front says (pick b own s) own s (0 ∷ loanNumbers) refl (loan-only (h .flags) l blocks) other in
-    let outer = in-front (form-says h) r HasherForm (pick b own s) (numberOf own ∷ 0 ∷ loanNumbers) e (inner .among) late in
+    let outer = in-front (form-decides h) r HasherForm (pick b own s) (numberOf own ∷ 0 ∷ loanNumbers) e (inner .among) late in
     record {
       at-1 = outer .at-own;
       at-own = outer .behind (numberOf own) P (rw (eq-eqb (numberOf own) (numberOf own) refl)) (inner .at-own);
@@ -97,10 +93,10 @@ module _ (h : Hasher) where
       by false = refl
 
   pub reset-0 : (numberOf (resetOf h .refusal) ≡ 0) ↔ WellFormed h
-  reset-0 = over 0 _ reset-is (first-exactly (well-says h) Nothing HasherForm 0 refl (λ e. omega arith))
+  reset-0 = over 0 _ reset-is (first-exactly (well-decides h) Nothing HasherForm 0 refl (λ e. omega arith))
 
   pub reset-1 : (numberOf (resetOf h .refusal) ≡ 1) ↔ (WellFormed h → ⊥)
-  reset-1 = over 1 _ reset-is (last-exactly (well-says h) Nothing HasherForm 1 (λ e. omega arith) refl)
+  reset-1 = over 1 _ reset-is (last-exactly (well-decides h) Nothing HasherForm 1 (λ e. omega arith) refl)
 
   pub reset-only : oneOf (0 ∷ 1 ∷ []) (numberOf (resetOf h .refusal)) ≡ true
   reset-only =
@@ -110,7 +106,7 @@ module _ (h : Hasher) where
   -- a refusal hands the hasher back as it was
   pub reset-refused : (WellFormed h → ⊥) → resetOf h ≡ record { refusal = HasherForm; hasher = h }
   unfolding resetOf
-  reset-refused n = rw (well-says h .off .1 n)
+  reset-refused n = rw (well-decides h .off .1 n)
 
 -- Update: 1, 7, then its loan.
 module _ (h : Hasher) (bytes : List ℕ) (l : Loan) where
@@ -173,7 +169,7 @@ module _ (five block table : List ℕ) (mask : ℕ) (mode : Mode) where
   pub block-8 : (numberOf (oneBlockOf five block table mask mode .refusal) ≡ 8) ↔ (length block ≡ 64 → ⊥)
   block-8 =
       over 8 _ block-is
-      (last-exactly (equal (length block) 64) (tableFault table) Size 8 (λ e. apart (0 ∷ tableNumbers) 8 (numberOf (tableFault table)) (table-only table) refl (sym e)) refl)
+      (last-exactly (equal (length block) 64) (tableFault table) Size 8 (λ e. apart (0 ∷ tableNumbers) 8 (numberOf (tableFault table)) (fault-numbers table) refl (sym e)) refl)
 
   pub block-table : (n : ℕ) → oneOf tableNumbers n ≡ true
       → (numberOf (oneBlockOf five block table mask mode .refusal) ≡ n) ↔ ((length block ≡ 64) × (numberOf (tableFault table) ≡ n))
@@ -188,7 +184,7 @@ module _ (five block table : List ℕ) (mask : ℕ) (mode : Mode) where
   block-only =
       let l : List ℕ = 0 ∷ 8 ∷ tableNumbers in
       subst (Among l) (sym block-is)
-      (of-either (Among l) (eqb (length block) 64) _ Size (within l (0 ∷ tableNumbers) (numberOf (tableFault table)) refl (table-only table)) refl)
+      (of-either (Among l) (eqb (length block) 64) _ Size (within l (0 ∷ tableNumbers) (numberOf (tableFault table)) refl (fault-numbers table)) refl)
 
   -- a refusal gives no mark and zeros
   pub block-refused : (numberOf (oneBlockOf five block table mask mode .refusal) ≡ 0 → ⊥)
@@ -213,7 +209,7 @@ module _ (h : Hasher) (l : Loan) where
   finish-front : InFront (outcomeRefusal (finished h l .outcome)) HasherForm (loanRefusal (h .flags) l (tailBlocks (h .fill)))
       (WellFormed h → ⊥) (WellFormed h) (0 ∷ loanNumbers)
   unfolding finishRefusal
-  finish-front = in-front (form-says h) _ HasherForm _ (0 ∷ loanNumbers) finish-is (loan-only (h .flags) l (tailBlocks (h .fill))) refl
+  finish-front = in-front (form-decides h) _ HasherForm _ (0 ∷ loanNumbers) finish-is (loan-only (h .flags) l (tailBlocks (h .fill))) refl
 
   pub finish-0 : (outcomeNumber (finished h l .outcome) ≡ 0) ↔ (WellFormed h × GoodLoan (h .flags) l (tailBlocks (h .fill)))
   finish-0 = finish-front .behind 0 _ refl (loan-0 (h .flags) l (tailBlocks (h .fill)))

@@ -16,7 +16,7 @@ use denote.Triple.Entry.{Args, Res}
 use denote.Triple.Clauses.{AtExit}
 use Rattle.refusal.specs.declared.Refusal.{Refusal}
 use Rattle.fips.specs.Tail.{tailBlocks}
-use Rattle.stream.specs.Loan.{Loan, loanOf}
+use Rattle.loan.specs.Loan.{Loan, loanOf}
 use Rattle.hasher.specs.declared.Hasher.{Hasher}
 use Rattle.in_place.specs.InPlace.{InPlace}
 use Rattle.octets.proofs.store.Kinds as store-kinds
@@ -29,8 +29,8 @@ use Rattle.refusal.proofs.place.Kinds as place-kinds
 use Rattle.refusal.proofs.place.Reads as place-contract
 use Rattle.refusal.proofs.is_nothing.Kinds as is-nothing-kinds
 use Rattle.refusal.proofs.is_nothing.Reads as is-nothing-contract
-use Rattle.table.proofs.table_fault.Kinds as table-check-kinds
-use Rattle.table.proofs.table_fault.Reads as table-check-contract
+use Rattle.table.proofs.table_fault.Kinds as table-fault-kinds
+use Rattle.table.proofs.table_fault.Reads as table-fault-contract
 use Rattle.detect.proofs.one_block.Kinds as one-block-kinds
 use Rattle.detect.proofs.one_block.Reads as one-block-contract
 use Rattle.flags.proofs.Flags.new.Kinds as defaults-kinds
@@ -55,10 +55,10 @@ use Rattle.fips.proofs.tail.Kinds as tail-kinds
 use Rattle.fips.proofs.tail.Reads as tail-contract
 use Rattle.stream.proofs.fold_blocks.Kinds as fold-blocks-kinds
 use Rattle.stream.proofs.fold_blocks.Reads as fold-blocks-contract
-use Rattle.stream.proofs.loan_refusal.Kinds as loan-refusal-kinds
-use Rattle.stream.proofs.loan_refusal.Reads as loan-refusal-contract
-use Rattle.stream.proofs.masks_from.Kinds as masks-from-kinds
-use Rattle.stream.proofs.masks_from.Reads as masks-from-contract
+use Rattle.loan.proofs.loan_refusal.Kinds as loan-refusal-kinds
+use Rattle.loan.proofs.loan_refusal.Reads as loan-refusal-contract
+use Rattle.loan.proofs.masks_from.Kinds as masks-from-kinds
+use Rattle.loan.proofs.masks_from.Reads as masks-from-contract
 use Rattle.hasher.proofs.reset.Kinds as reset-kinds
 use Rattle.hasher.proofs.reset.Reads as reset-contract
 use Rattle.hasher.proofs.Hasher.new.Kinds as new-kinds
@@ -89,10 +89,10 @@ use Rattle.sheet.proofs.lookup_refusal.Kinds as lookup-refusal-kinds
 use Rattle.sheet.proofs.lookup_refusal.Reads as lookup-refusal-contract
 use Rattle.sheet.proofs.part_from.Kinds as part-from-kinds
 use Rattle.sheet.proofs.part_from.Reads as part-from-contract
-use Rattle.sheet.proofs.compare.Kinds as compare-kinds
-use Rattle.sheet.proofs.compare.Reads as compare-contract
-use Rattle.sheet.proofs.comparison_word.Kinds as comparison-word-kinds
-use Rattle.sheet.proofs.comparison_word.Reads as comparison-word-contract
+use Rattle.comparison.proofs.compare.Kinds as compare-kinds
+use Rattle.comparison.proofs.compare.Reads as compare-contract
+use Rattle.comparison.proofs.comparison_word.Kinds as comparison-word-kinds
+use Rattle.comparison.proofs.comparison_word.Reads as comparison-word-contract
 use Rattle.sheet.proofs.lookup.Kinds as lookup-kinds
 use Rattle.sheet.proofs.lookup.Reads as lookup-contract
 use Rattle.table_file.proofs.file_words.Kinds as file-words-kinds
@@ -120,9 +120,9 @@ place-settled t = same (t .first) (t .second)
 pub is-nothing-settled : Settled 0 is-nothing-kinds.ps is-nothing-kinds.r is-nothing-contract.Post
 is-nothing-settled t = same (t .first) (t .second)
 
--- The table check.
-pub table-check-settled : Settled 1 table-check-kinds.ps table-check-kinds.r table-check-contract.Post
-table-check-settled t = same (t .first) (t .second)
+-- What is wrong with a table.
+pub table-fault-settled : Settled 1 table-fault-kinds.ps table-fault-kinds.r table-fault-contract.Post
+table-fault-settled t = same (t .first) (t .second)
 
 -- The one-block entry.
 pub one-block-settled : Settled 2 one-block-kinds.ps one-block-kinds.r one-block-contract.Post

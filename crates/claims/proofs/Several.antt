@@ -12,7 +12,7 @@ use Rattle.refusal.specs.declared.Refusal.the-variants.{Nothing}
 use Rattle.refusal.proofs.Passed.{of-refusal}
 use Rattle.verdict.specs.Verdict.{digestSize}
 use Rattle.flags.specs.declared.Flags.{Flags}
-use Rattle.stream.specs.Loan.{Tables, Loan, lend}
+use Rattle.loan.specs.Loan.{Tables, Loan, lend}
 use Rattle.hasher.specs.Hasher.{wellFormed, freshOf, resetOf}
 use Rattle.hasher.specs.declared.Hasher.{Hasher}
 use Rattle.hasher.specs.declared.Updated.{Updated}

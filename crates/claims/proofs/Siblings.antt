@@ -9,7 +9,7 @@ use Rattle.verdict.specs.declared.Verdict.the-variants.{Ok, Mitigated, Collisio
 use Rattle.detect.specs.Detect.{answerOf}
 use Rattle.fips.specs.Fips.{padded, initial}
 use Rattle.flags.specs.declared.Flags.{Flags}
-use Rattle.stream.specs.Loan.{Tables, Loan, lend, lookedAt}
+use Rattle.loan.specs.Loan.{Tables, Loan, lend, lookedAt}
 use Rattle.stream.specs.Fold.{modeOf}
 use Rattle.finish.specs.declared.Outcome.the-variants.{Done}
 use Rattle.claims.specs.Sound.{TypedTables, TablesGood}

@@ -12,7 +12,7 @@ use Rattle.step.specs.Step.{Words, regsOf, fiveOf}
 use Rattle.step.specs.declared.Regs.{Regs}
 use Rattle.fips.specs.Fips.{initial}
 use Rattle.flags.specs.declared.Flags.{Flags}
-use Rattle.stream.specs.Loan.{Loan, lookedAt}
+use Rattle.loan.specs.Loan.{Loan, lookedAt}
 use Rattle.hasher.specs.Hasher.{wellFormed, chainOf, freshOf, resetOf}
 use Rattle.hasher.specs.declared.Hasher.{Hasher}
 use Rattle.hasher.specs.declared.Updated.{Updated}

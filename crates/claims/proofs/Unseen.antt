@@ -14,7 +14,7 @@ use Rattle.fips.specs.Tail.{tailBlocks, tailOf}
 use Rattle.flags.specs.Flags.{usesMasks, withMasks}
 use Rattle.flags.specs.declared.Flags.{Flags}
 use Rattle.flags.specs.declared.Masks.the-variants.{All, Lent}
-use Rattle.stream.specs.Loan.{Tables, Loan, lend, loanRefusal}
+use Rattle.loan.specs.Loan.{Tables, Loan, lend, loanRefusal}
 use Rattle.stream.specs.Fold.{allBits, firstChain, blockOf, chained, folded}
 use Rattle.stream.specs.declared.Chain.{Chain}
 use Rattle.hasher.specs.Hasher.{wellFormed, taken, chainOf, freshOf}

@@ -8,7 +8,7 @@ use lib.ListN.{length, take, drop, length-append}
 use lib.Seq.{drop-drop, drop-append-le, take-append-seam}
 use Rattle.flags.specs.Flags.{usesMasks}
 use Rattle.flags.specs.declared.Flags.{Flags}
-use Rattle.stream.specs.Loan.{Tables, Loan, lend}
+use Rattle.loan.specs.Loan.{Tables, Loan, lend}
 use Rattle.stream.specs.Fold.{folded}
 use Rattle.stream.specs.declared.Chain.{Chain}
 use Rattle.hasher.specs.Hasher.{chainOf, zeroed, hasherAt}

@@ -11,9 +11,9 @@ use Rattle.fips.specs.Fips.{mostBytes, padded, digestOf}
 use Rattle.fips.specs.Tail.{tailBlocks}
 use Rattle.flags.specs.Flags.{usesMasks}
 use Rattle.flags.specs.declared.Flags.{Flags}
-use Rattle.stream.specs.Loan.{Tables, lend}
+use Rattle.loan.specs.Loan.{Tables, lend}
 use Rattle.stream.specs.Fold.{firstChain}
-use Rattle.stream.proofs.Loans.{AcceptedLoan, loan-accepted}
+use Rattle.loan.proofs.Loans.{AcceptedLoan, loan-accepted}
 use Rattle.hasher.specs.Hasher.{freshOf}
 use Rattle.absorb.specs.Absorb.{absorbed}
 use Rattle.update.proofs.Absorbed.{fill-after}
@@ -22,7 +22,7 @@ use Rattle.finish.specs.declared.Outcome.the-variants.{Done}
 use Rattle.finish.proofs.Finishing.{finish-finishing}
 use Rattle.one_shot.specs.Whole.{wholeChain}
 use Rattle.one_shot.proofs.Padded.{last-chain-lent}
-use Rattle.claims.specs.Pieces.{Piece, bytesOf, lentMasks, taking, hashed, loanOfAll, blockMasks, NoneRefused}
+use Rattle.claims.specs.Pieces.{Piece, bytesOf, pieceMasks, taking, hashed, loanOfAll, blockMasks, NoneRefused}
 use Rattle.claims.specs.Marked.{againBy, blocksIn, sha1Marked, markedAt}
 use Rattle.claims.proofs.Below.{anyBelow}
 use Rattle.claims.proofs.After.{words-then, mark-then}
@@ -32,15 +32,15 @@ use Rattle.claims.proofs.Kept.{fresh-sound, pieces-flags}
 module _ (f : Flags) (t : Tables) where
   -- the hasher after the updates
   taking-is : (ps : List Piece) → taking f t ps .refusal ≡ Nothing
-      → taking f t ps ≡ record { refusal = Nothing; hasher = absorbed (freshOf f) (bytesOf ps) (lend t (lentMasks ps)) }
+      → taking f t ps ≡ record { refusal = Nothing; hasher = absorbed (freshOf f) (bytesOf ps) (lend t (pieceMasks ps)) }
   taking-is ps e = pieces-absorbed ps (freshOf f) t (fresh-sound f .size) (fresh-sound f .well) e
 
   -- what is known of a message whose updates are not refused: its masks, its length and the fill that it leaves
-  pub masks-counted : (ps : List Piece) → taking f t ps .refusal ≡ Nothing → usesMasks f ≡ true → length (lentMasks ps) ≡ length (bytesOf ps) / 64
+  pub masks-counted : (ps : List Piece) → taking f t ps .refusal ≡ Nothing → usesMasks f ≡ true → length (pieceMasks ps) ≡ length (bytesOf ps) / 64
   masks-counted [] e u = refl
   masks-counted (p ∷ ps) e u =
       let a = pieces-taken p ps (freshOf f) t (fresh-sound f .size) e in
-      let c = taken-accepted (freshOf f) (bytesOf (p ∷ ps)) (lend t (lentMasks (p ∷ ps))) a .counts u in
+      let c = taken-accepted (freshOf f) (bytesOf (p ∷ ps)) (lend t (pieceMasks (p ∷ ps))) a .counts u in
       omega arith
 
   pub short-is : (ps : List Piece) → taking f t ps .refusal ≡ Nothing → length (bytesOf ps) ≤ mostBytes
@@ -50,7 +50,7 @@ module _ (f : Flags) (t : Tables) where
       omega arith
 
   pub fill-is : (ps : List Piece) → taking f t ps .refusal ≡ Nothing → taking f t ps .hasher .fill ≡ length (bytesOf ps) % 64
-  fill-is ps e = rw (taking-is ps e) (fill-after (freshOf f) (bytesOf ps) (lend t (lentMasks ps)) refl (omega arith) ∙ omega arith)
+  fill-is ps e = rw (taking-is ps e) (fill-after (freshOf f) (bytesOf ps) (lend t (pieceMasks ps)) refl (omega arith) ∙ omega arith)
 
   module _ (ps : List Piece) (last : List ℕ) (ok : NoneRefused f t ps last) where
     -- what the finish is lent
@@ -61,7 +61,7 @@ module _ (f : Flags) (t : Tables) where
 
     last-chain : lastChain (taking f t ps .hasher) (lend t last) ≡ wholeChain f (bytesOf ps) (loanOfAll t ps last)
     unfolding wholeChain
-    last-chain = rw (taking-is ps (ok .updates)) (last-chain-lent f t (bytesOf ps) (lentMasks ps) last (masks-counted ps (ok .updates)))
+    last-chain = rw (taking-is ps (ok .updates)) (last-chain-lent f t (bytesOf ps) (pieceMasks ps) last (masks-counted ps (ok .updates)))
 
     -- the answer, by the chain after the padded message
     pub hashed-by : hashed f t ps last

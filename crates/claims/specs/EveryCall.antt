@@ -7,7 +7,7 @@ use Prim.Native.Nat.{ℕ}
 use Rattle.verdict.specs.declared.Verdict.the-variants.{Ok, Mitigated, Collision}
 use Rattle.step.specs.Step.{regsOf}
 use Rattle.fips.specs.Fips.{paddingFor}
-use Rattle.stream.specs.Loan.{Loan}
+use Rattle.loan.specs.Loan.{Loan}
 use Rattle.hasher.specs.Hasher.{taken}
 use Rattle.hasher.specs.declared.Hasher.{Hasher}
 use Rattle.absorb.specs.Absorb.{streamOf}

@@ -10,7 +10,7 @@ use Rattle.block.specs.Compress.{compressOf}
 use Rattle.detect.specs.Detect.{answerOf}
 use Rattle.fips.specs.Fips.{padded, initial, digestOf}
 use Rattle.flags.specs.declared.Flags.{Flags}
-use Rattle.stream.specs.Loan.{Tables, Loan, lookedAt}
+use Rattle.loan.specs.Loan.{Tables, Loan, lookedAt}
 use Rattle.stream.specs.Fold.{allBits, modeOf}
 
 -- whether the block that meets the chaining words h is marked: never with detection off

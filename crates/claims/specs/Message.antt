@@ -4,7 +4,7 @@ use Prim.Native.Nat.{ℕ, _<_}
 use Rattle.step.specs.declared.Regs.{Regs}
 use Rattle.fips.specs.Fips.{padded}
 use Rattle.flags.specs.declared.Flags.{Flags}
-use Rattle.stream.specs.Loan.{Loan, lookedAt}
+use Rattle.loan.specs.Loan.{Loan, lookedAt}
 use Rattle.claims.specs.Marked.{wholeBlocks, blockAt, maskFor, wordsAt, blocksIn, wordsBefore}
 use Rattle.claims.specs.Sibling.{Met, MetIn}
 

@@ -9,7 +9,7 @@ use Rattle.refusal.specs.declared.Refusal.the-variants.{Nothing}
 use Rattle.verdict.specs.Verdict.{digestSize}
 use Rattle.fips.specs.Tail.{tailBlocks}
 use Rattle.flags.specs.declared.Flags.{Flags}
-use Rattle.stream.specs.Loan.{Tables, Loan, lend, lookedAt}
+use Rattle.loan.specs.Loan.{Tables, Loan, lend, lookedAt}
 use Rattle.hasher.specs.Hasher.{freshOf}
 use Rattle.hasher.specs.declared.Hasher.{Hasher}
 use Rattle.hasher.specs.declared.Updated.{Updated}
@@ -28,9 +28,9 @@ bytesOf [] = []
 bytesOf (p ∷ ps) = p .bytes ++ bytesOf ps
 
 -- the masks of all its pieces
-abbrev pub lentMasks : List Piece → List ℕ
-lentMasks [] = []
-lentMasks (p ∷ ps) = p .masks ++ lentMasks ps
+abbrev pub pieceMasks : List Piece → List ℕ
+pieceMasks [] = []
+pieceMasks (p ∷ ps) = p .masks ++ pieceMasks ps
 
 -- an update for each piece, in order, with the same tables; the first refusal ends them
 unfoldable pub piecewise : Hasher → Tables → List Piece → Updated
@@ -57,11 +57,11 @@ inTwo f t bytes first last = finished (updated (freshOf f) bytes (lend t first) 
 
 -- the loan for all blocks of a message: the tables, and the masks of all its calls
 abbrev pub loanOfAll : Tables → List Piece → List ℕ → Loan
-loanOfAll t ps last = lend t (lentMasks ps ++ last)
+loanOfAll t ps last = lend t (pieceMasks ps ++ last)
 
 -- the masks of a message's blocks, padding included: those lent, or none where they are not looked at
 abbrev pub blockMasks : Flags → List Piece → List ℕ → List ℕ
-blockMasks f ps last = lookedAt f (lentMasks ps ++ last)
+blockMasks f ps last = lookedAt f (pieceMasks ps ++ last)
 
 -- no call is refused, neither an update nor the finish
 pub record NoneRefused (f : Flags) (t : Tables) (ps : List Piece) (last : List ℕ) : Type 0 where

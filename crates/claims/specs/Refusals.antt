@@ -1,4 +1,4 @@
--- What the lines of 01's table of numbers say of a hasher, as facts. What they say of a loan stands in stream/specs/Loan, of a table in table/specs/Good.
+-- What the lines of 01's table of numbers say of a hasher, as facts. What they say of a loan stands in loan/specs/Loan, of a table in table/specs/Good.
 use mathlib.Core.Path.{_≡_}
 use mathlib.Core.Bool.{true}
 use Prim.Native.Nat.{ℕ, _≤_}

@@ -6,7 +6,7 @@ use Rattle.fips.specs.Tail.{tailBlocks}
 use Rattle.flags.specs.Flags.{withMasks}
 use Rattle.flags.specs.declared.Masks.{Masks}
 use Rattle.flags.specs.declared.Masks.the-variants.{All, Lent}
-use Rattle.stream.specs.Loan.{Loan, lend}
+use Rattle.loan.specs.Loan.{Loan, lend}
 use Rattle.stream.specs.Fold.{allBits}
 use Rattle.hasher.specs.declared.Hasher.{Hasher}
 use Rattle.update.specs.Update.{blocksFilled}

@@ -7,7 +7,7 @@ use Rattle.refusal.specs.declared.Refusal.{Refusal}
 use Rattle.refusal.specs.declared.Refusal.the-variants.{Nothing}
 use Rattle.verdict.specs.Verdict.{digestSize}
 use Rattle.flags.specs.declared.Flags.{Flags}
-use Rattle.stream.specs.Loan.{Tables, lend}
+use Rattle.loan.specs.Loan.{Tables, lend}
 use Rattle.hasher.specs.declared.Hasher.{Hasher}
 use Rattle.finish.specs.Finish.{finishedReset, writtenOut}
 use Rattle.one_shot.specs.declared.Digested.{Digested}

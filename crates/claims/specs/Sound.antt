@@ -4,7 +4,7 @@ use mathlib.Core.Bool.{true}
 use lib.ListN.{length}
 use Rattle.word.specs.Lists.{AllWords, AllBytes}
 use Rattle.table.specs.Good.{GoodTable}
-use Rattle.stream.specs.Loan.{Tables}
+use Rattle.loan.specs.Loan.{Tables}
 use Rattle.hasher.specs.Hasher.{wellFormed}
 use Rattle.hasher.specs.declared.Hasher.{Hasher}
 

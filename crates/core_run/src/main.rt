@@ -3,18 +3,19 @@
 ghost use mathlib.Core.Path.{_≡_};
 ghost use lib.ListN.{length};
 use cases::field;
+use cases::fill_from;
+use cases::from_field;
 use cases::front;
 use cases::front_bytes;
 use cases::line_at;
-use cases::load;
+use cases::mode_of_bits;
 use cases::next_line;
 use cases::number_at;
 use cases::page;
 use cases::read;
 use cases::records_of;
-use cases::rest_of;
 use cases::say_title;
-use cases::word_at;
+use cases::word_field;
 use detect::Mode;
 use detect::OneBlock;
 use detect::one_block;
@@ -83,14 +84,6 @@ fn abc() -> [u8; 128]
     b
 }
 
-// Two of the flags' bits: 2 mitigate, 8 reduced-round.
-fn mode_of(bits: usize) -> Mode {
-    Mode {
-        mitigate: bits / 2 % 2 == 1,
-        reduced: bits / 8 % 2 == 1,
-    }
-}
-
 // The block of `abc`, or fewer or more bytes, with control records.
 fn control(line: &[u8]) {
     let t = records_of(line);
@@ -99,10 +92,10 @@ fn control(line: &[u8]) {
         start(),
         front_bytes(&block, number_at(line, 8)),
         front(&t, number_at(line, 1)),
-        word_at(line, 6),
-        mode_of(number_at(line, 7)),
+        word_field(line, 6),
+        mode_of_bits(number_at(line, 7)),
     );
-    say_block(rest_of(line, 9), b);
+    say_block(from_field(line, 9), b);
 }
 
 // Block i of a message, from the given words.
@@ -116,8 +109,8 @@ fn nth_block(w: [u32; 5], m: &[u8], i: usize, table: &[u32], mask: u32, mode: Mo
 }
 
 // The words after the first n blocks: with mask 0 nothing is tried.
-fn after(m: &[u8], n: usize, table: &[u32]) -> [u32; 5] {
-    let mode = mode_of(0);
+fn words_after(m: &[u8], n: usize, table: &[u32]) -> [u32; 5] {
+    let mode = mode_of_bits(0);
     let mut w = start();
     for i in 0..n {
         let b = nth_block(w, m, i, table, 0, mode);
@@ -130,17 +123,17 @@ fn after(m: &[u8], n: usize, table: &[u32]) -> [u32; 5] {
 fn block_of(line: &[u8], m: &[u8], table: &[u32]) {
     let i = number_at(line, 3);
     let b = nth_block(
-        after(m, i, table),
+        words_after(m, i, table),
         m,
         i,
         table,
-        word_at(line, 4),
-        mode_of(number_at(line, 5)),
+        word_field(line, 4),
+        mode_of_bits(number_at(line, 5)),
     );
-    say_block(rest_of(line, 6), b);
+    say_block(from_field(line, 6), b);
 }
 
-fn front_of(line: &[u8], m: &[u8; 320], table: &[u32; MOST_WORDS]) {
+fn front_block(line: &[u8], m: &[u8; 320], table: &[u32; MOST_WORDS]) {
     block_of(line, front_bytes(m, number_at(line, 2)), table);
 }
 
@@ -148,20 +141,20 @@ fn published(line: &[u8], table: &[u32; MOST_WORDS]) {
     let mut m = [0u8; 320];
     let n = number_at(line, 2);
     if n <= 320 {
-        load(field(line, 1), &mut m[0..n]);
-        front_of(line, &m, table);
+        fill_from(field(line, 1), &mut m[0..n]);
+        front_block(line, &m, table);
     }
 }
 
 // A byte of a file that was read, changed.
-fn put(bytes: &mut [u8], at: usize, b: u8) {
+fn set_byte(bytes: &mut [u8], at: usize, b: u8) {
     if at < bytes.len() {
         bytes[at] = b;
     }
 }
 
 fn say_file_fault(line: &[u8], r: Refusal) {
-    say(rest_of(line, 4));
+    say(from_field(line, 4));
     say(b": ");
     say_decimal(number(r) as u64);
     say(b" at ");
@@ -173,8 +166,8 @@ fn say_file_fault(line: &[u8], r: Refusal) {
 // table can have.
 fn table_file(line: &[u8]) {
     let mut bytes = [0u8; 10824];
-    load(b"longer-table.bin", &mut bytes);
-    put(
+    fill_from(b"longer-table.bin", &mut bytes);
+    set_byte(
         &mut bytes,
         number_at(line, 2),
         (number_at(line, 3) % 256) as u8,
@@ -209,7 +202,7 @@ fn main() {
     let mut text = page();
     let mut bytes = [0u8; 10496];
     let n = read(b"cases.txt", &mut text);
-    load(b"real-table.bin", &mut bytes);
+    fill_from(b"real-table.bin", &mut bytes);
     let table = file_words(&bytes);
     each(&text[..n], &table);
 }

@@ -4,13 +4,14 @@
 // library, so each call has its name here and its work in the crates below.
 ghost use mathlib.Core.Path.{_≡_};
 ghost use mathlib.Core.List.{[], _∷_};
-ghost use Rattle.stream.specs.Loan.{loanOf};
+ghost use Rattle.loan.specs.Loan.{loanOf};
 ghost use Rattle.answers.specs.Answers.{left};
-ghost use Rattle.lent_hasher.specs.LentHasher.{newCall, updateCall, resetCall, finishCall, finishResetCall};
+ghost use Rattle.lent_hasher.specs.LentHasher.{newCall, updateCall, resetCall};
+ghost use Rattle.lent_finish.specs.LentFinish.{finishCall, finishResetCall};
 ghost use Rattle.lent_table.specs.LentTable.{blockCall, oneShotCall, tableCall};
 ghost use Rattle.lent_sheet.specs.LentSheet.{lookupCall, compareCall};
-use lent_hasher::finish_and_reset_lent;
-use lent_hasher::finish_lent;
+use lent_finish::finish_and_reset_lent;
+use lent_finish::finish_lent;
 use lent_hasher::new_lent;
 use lent_hasher::reset_lent;
 use lent_hasher::update_lent;

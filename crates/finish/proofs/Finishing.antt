@@ -10,7 +10,7 @@ use Rattle.refusal.specs.declared.Refusal.the-variants.{Nothing, HasherForm, Si
 use Rattle.refusal.proofs.Passed.{passed}
 use Rattle.verdict.specs.Verdict.{digestSize}
 use Rattle.fips.specs.Tail.{tailBlocks}
-use Rattle.stream.specs.Loan.{Loan, loanRefusal}
+use Rattle.loan.specs.Loan.{Loan, loanRefusal}
 use Rattle.hasher.specs.Hasher.{wellFormed}
 use Rattle.hasher.specs.declared.Hasher.{Hasher}
 use Rattle.finish.specs.Finish.{finishRefusal}

@@ -11,7 +11,7 @@ use Rattle.refusal.specs.declared.Refusal.the-variants.{Nothing, HasherForm, Si
 use Rattle.verdict.specs.Verdict.{digestSize, verdictOf}
 use Rattle.fips.specs.Fips.{digestOf}
 use Rattle.fips.specs.Tail.{tailBlocks, tailOf}
-use Rattle.stream.specs.Loan.{Loan, loanRefusal}
+use Rattle.loan.specs.Loan.{Loan, loanRefusal}
 use Rattle.stream.specs.Fold.{folded}
 use Rattle.stream.specs.declared.Chain.{Chain}
 use Rattle.hasher.specs.Hasher.{wellFormed, taken, chainOf, freshOf}

@@ -2,7 +2,7 @@
 ghost use mathlib.Core.Path.{_≡_};
 ghost use mathlib.Core.Bool.{true};
 ghost use lib.ListN.{length};
-ghost use Rattle.stream.specs.Loan.{loanOf};
+ghost use Rattle.loan.specs.Loan.{loanOf};
 ghost use Rattle.hasher.specs.Hasher.{wellFormed};
 ghost use Rattle.finish.specs.Finish.{lastChain, finishRefusal, finished, finishedReset, writtenOut};
 use fips::digest;
@@ -10,16 +10,15 @@ use fips::tail;
 use fips::tail_blocks;
 use hasher::Hasher;
 use hasher::well_formed;
+use loan::loan_refusal;
 use octets::store;
 use refusal::Refusal;
 use refusal::is_nothing;
 use stream::Chain;
 use stream::fold_blocks;
-use stream::loan_refusal;
+use verdict::DIGEST_SIZE;
 use verdict::Verdict;
 use verdict::verdict_of;
-
-pub const DIGEST_SIZE: usize = 20;
 
 // The verdict, or what was refused.
 pub enum Outcome {
@@ -30,7 +29,7 @@ pub enum Outcome {
 // What a finish gives: 20 zeros for the digest on a refusal.
 pub struct Finished {
     pub outcome: Outcome,
-    pub digest: [u8; 20],
+    pub digest: [u8; DIGEST_SIZE],
     pub hasher: Hasher,
 }
 

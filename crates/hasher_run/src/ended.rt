@@ -1,5 +1,10 @@
 // A message given to a hasher, with the masks of its blocks lent to each call, and the ways to end it.
+ghost use mathlib.Core.Path.{_≡_};
 ghost use Prim.Native.Nat.{_<_, _≤_};
+ghost use Rattle.loan.specs.Loan.{loanOf};
+ghost use Rattle.one_shot.specs.Whole.{blocksOf};
+ghost use Rattle.cases.specs.Numbers.{numberAt};
+ghost use Rattle.hasher_run.specs.Cut.{masksBetween, afterPiece, pieceEnd, inPieces, finishAfter, byFinish, byFinishReset, atOnce, endBy};
 use cases::number_at;
 use finish::Finished;
 use finish::Outcome;
@@ -18,7 +23,9 @@ pub struct Ended {
 }
 
 // The masks of the blocks from `from` to `to`, or all of them where there are not so many.
-fn lent(masks: &[u32], from: usize, to: usize) -> &[u32] {
+fn masks_between(masks: &[u32], from: usize, to: usize) -> &[u32]
+    ensures { λ r. ⌜ now r ≡ masksBetween (now (masks .entry)) from to ⌝ }
+{
     if to < from {
         return masks;
     }
@@ -29,7 +36,9 @@ fn lent(masks: &[u32], from: usize, to: usize) -> &[u32] {
 }
 
 // How many blocks a message of n bytes makes, padding included.
-fn blocks_of(n: usize) -> usize {
+fn blocks_of(n: usize) -> usize
+    ensures { λ r. ⌜ r ≡ blocksOf n ⌝ }
+{
     if n % 64 <= 55 {
         return n / 64 + 1;
     }
@@ -37,8 +46,9 @@ fn blocks_of(n: usize) -> usize {
 }
 
 // Where a piece of n bytes ends, at least one byte on and never past the end.
-fn next(at: usize, end: usize, n: usize) -> usize
+fn piece_end(at: usize, end: usize, n: usize) -> usize
     requires { ⌜ at < end ⌝ }
+    ensures { λ r. ⌜ r ≡ pieceEnd at end n ⌝ }
     ensures { λ r. ⌜ at < r ⌝ }
     ensures { λ r. ⌜ r ≤ end ⌝ }
 {
@@ -52,20 +62,24 @@ fn next(at: usize, end: usize, n: usize) -> usize
 }
 
 // One piece. Where it is refused the hasher is as it was, and the digest will not be the message's.
-fn piece(h: Hasher, bytes: &[u8], table: &[u32], masks: &[u32]) -> Hasher {
+fn after_piece(h: Hasher, bytes: &[u8], table: &[u32], masks: &[u32]) -> Hasher
+    ensures { λ r. ⌜ r ≡ afterPiece h (now (bytes .entry)) (loanOf (now (table .entry)) (now (masks .entry))) ⌝ }
+{
     let u = update(h, bytes, table, masks);
     u.hasher
 }
 
 // The hasher after a message in pieces, of the sizes of fields 6 and 7 in turn.
-pub(crate) fn taken(h: Hasher, m: &[u8], line: &[u8], table: &[u32], masks: &[u32]) -> Hasher {
+pub(crate) fn in_pieces(h: Hasher, m: &[u8], line: &[u8], table: &[u32], masks: &[u32]) -> Hasher
+    ensures { λ r. ⌜ r ≡ inPieces h (now (m .entry)) (numberAt (now (line .entry)) 6) (numberAt (now (line .entry)) 7) (loanOf (now (table .entry)) (now (masks .entry))) ⌝ }
+{
     let mut g = h;
     let mut at = 0;
     let mut size = number_at(line, 6);
     let mut other = number_at(line, 7);
     while at < m.len() {
-        let to = next(at, m.len(), size);
-        g = piece(g, &m[at..to], table, lent(masks, at / 64, to / 64));
+        let to = piece_end(at, m.len(), size);
+        g = after_piece(g, &m[at..to], table, masks_between(masks, at / 64, to / 64));
         at = to;
         let last = size;
         size = other;
@@ -75,13 +89,17 @@ pub(crate) fn taken(h: Hasher, m: &[u8], line: &[u8], table: &[u32], masks: &[u3
 }
 
 // The finish of a message of n bytes.
-pub(crate) fn finished(h: Hasher, n: usize, table: &[u32], masks: &[u32]) -> Finished {
-    finish(h, table, lent(masks, n / 64, blocks_of(n)))
+pub(crate) fn finish_after(h: Hasher, n: usize, table: &[u32], masks: &[u32]) -> Finished
+    ensures { λ r. ⌜ r ≡ finishAfter h n (loanOf (now (table .entry)) (now (masks .entry))) ⌝ }
+{
+    finish(h, table, masks_between(masks, n / 64, blocks_of(n)))
 }
 
 // In pieces, a finish, and a reset.
-fn by_finish(h: Hasher, m: &[u8], line: &[u8], table: &[u32], masks: &[u32]) -> Ended {
-    let f = finished(taken(h, m, line, table, masks), m.len(), table, masks);
+fn by_finish(h: Hasher, m: &[u8], line: &[u8], table: &[u32], masks: &[u32]) -> Ended
+    ensures { λ r. ⌜ r ≡ byFinish h (now (m .entry)) (numberAt (now (line .entry)) 6) (numberAt (now (line .entry)) 7) (loanOf (now (table .entry)) (now (masks .entry))) ⌝ }
+{
+    let f = finish_after(in_pieces(h, m, line, table, masks), m.len(), table, masks);
     let outcome = f.outcome;
     let digest = f.digest;
     let g = f.hasher;
@@ -95,11 +113,18 @@ fn by_finish(h: Hasher, m: &[u8], line: &[u8], table: &[u32], masks: &[u32]) -> 
 }
 
 // In one piece, and a finish-and-reset.
-fn by_finish_reset(h: Hasher, m: &[u8], table: &[u32], masks: &[u32]) -> Ended {
+fn by_finish_reset(h: Hasher, m: &[u8], table: &[u32], masks: &[u32]) -> Ended
+    ensures { λ r. ⌜ r ≡ byFinishReset h (now (m .entry)) (loanOf (now (table .entry)) (now (masks .entry))) ⌝ }
+{
     let n = m.len();
     let mut digest = [0u8; 20];
-    let g = piece(h, m, table, lent(masks, 0, n / 64));
-    let c = finish_and_reset(g, &mut digest, table, lent(masks, n / 64, blocks_of(n)));
+    let g = after_piece(h, m, table, masks_between(masks, 0, n / 64));
+    let c = finish_and_reset(
+        g,
+        &mut digest,
+        table,
+        masks_between(masks, n / 64, blocks_of(n)),
+    );
     let outcome = c.outcome;
     let hasher = c.hasher;
     Ended {
@@ -110,8 +135,10 @@ fn by_finish_reset(h: Hasher, m: &[u8], table: &[u32], masks: &[u32]) -> Ended {
 }
 
 // By the one-shot form, which takes no hasher.
-fn at_once(h: Hasher, m: &[u8], table: &[u32], masks: &[u32]) -> Ended {
-    let d = one_shot(m, table, lent(masks, 0, blocks_of(m.len())));
+fn at_once(h: Hasher, m: &[u8], table: &[u32], masks: &[u32]) -> Ended
+    ensures { λ r. ⌜ r ≡ atOnce h (now (m .entry)) (loanOf (now (table .entry)) (now (masks .entry))) ⌝ }
+{
+    let d = one_shot(m, table, masks_between(masks, 0, blocks_of(m.len())));
     let outcome = d.outcome;
     let digest = d.digest;
     Ended {
@@ -121,7 +148,7 @@ fn at_once(h: Hasher, m: &[u8], table: &[u32], masks: &[u32]) -> Ended {
     }
 }
 
-// A message by a way: 0 a finish, 1 a finish-and-reset, 2 the one-shot form.
+// A message by a way: 0 a finish, 1 a finish-and-reset, else the one-shot form.
 pub(crate) fn end_by(
     way: usize,
     h: Hasher,
@@ -129,10 +156,14 @@ pub(crate) fn end_by(
     line: &[u8],
     table: &[u32],
     masks: &[u32],
-) -> Ended {
-    match way {
-        0 => by_finish(h, m, line, table, masks),
-        1 => by_finish_reset(h, m, table, masks),
-        _ => at_once(h, m, table, masks),
+) -> Ended
+    ensures { λ r. ⌜ r ≡ endBy way h (now (m .entry)) (numberAt (now (line .entry)) 6) (numberAt (now (line .entry)) 7) (loanOf (now (table .entry)) (now (masks .entry))) ⌝ }
+{
+    if way == 0 {
+        return by_finish(h, m, line, table, masks);
     }
+    if way == 1 {
+        return by_finish_reset(h, m, table, masks);
+    }
+    at_once(h, m, table, masks)
 }

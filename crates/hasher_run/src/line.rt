@@ -1,13 +1,14 @@
 // The lines of a message: what is tried, the verdict and the digest.
 ghost use mathlib.Core.Path.{_≡_};
 ghost use lib.ListN.{length};
+ghost use Rattle.hasher_run.specs.Cut.{turnedBits};
 use crate::ended::end_by;
 use cases::field;
-use cases::flags_of;
+use cases::fill_from;
+use cases::flags_of_bits;
+use cases::from_field;
 use cases::front_bytes;
-use cases::load;
 use cases::number_at;
-use cases::rest_of;
 use flags::Flags;
 use hasher::Hasher;
 use printing::say;
@@ -23,7 +24,7 @@ fn answer(way: usize, flags: Flags, line: &[u8], m: &[u8], table: &[u32], masks:
 }
 
 // A message: what a finish gives, and what a finish-and-reset gives.
-fn whole(flags: Flags, line: &[u8], m: &[u8], table: &[u32], masks: &[u32]) {
+fn both_ways(flags: Flags, line: &[u8], m: &[u8], table: &[u32], masks: &[u32]) {
     say(b"  ");
     say_flags(flags);
     say(b": ");
@@ -33,19 +34,21 @@ fn whole(flags: Flags, line: &[u8], m: &[u8], table: &[u32], masks: &[u32]) {
 }
 
 // Four bits in the other order, so that detection is the last to turn.
-fn turned(bits: usize) -> usize {
+fn turned_bits(bits: usize) -> usize
+    ensures { λ r. ⌜ r ≡ turnedBits bits ⌝ }
+{
     bits / 8 % 2 + bits / 4 % 2 * 2 + bits / 2 % 2 * 4 + bits % 2 * 8
 }
 
 fn each_mode(line: &[u8], m: &[u8], table: &[u32], masks: &[u32]) {
     for bits in 0..16 {
-        whole(flags_of(turned(bits)), line, m, table, masks);
+        both_ways(flags_of_bits(turned_bits(bits)), line, m, table, masks);
     }
 }
 
 // A message under every setting of the flags, and by the one-shot form.
 fn modes(line: &[u8], m: &[u8], table: &[u32], masks: &[u32]) {
-    say(rest_of(line, 10));
+    say(from_field(line, 10));
     say(b"\n");
     each_mode(line, m, table, masks);
     say(b"  one-shot: ");
@@ -67,7 +70,7 @@ pub(crate) fn file(line: &[u8], table: &[u32], masks: &[u32]) {
     let mut m = [0u8; 320];
     let n = number_at(line, 9);
     if n <= 320 {
-        load(field(line, 8), &mut m[0..n]);
+        fill_from(field(line, 8), &mut m[0..n]);
         front_of(line, &m, table, masks);
     }
 }
@@ -81,8 +84,8 @@ fn a_million() -> [u8; 1000000]
 // A million times a, under the flags of field 5, by the way of field 8.
 pub(crate) fn long(line: &[u8], table: &[u32], masks: &[u32]) {
     let m = a_million();
-    let flags = flags_of(number_at(line, 5));
-    say(rest_of(line, 10));
+    let flags = flags_of_bits(number_at(line, 5));
+    say(from_field(line, 10));
     say(b": ");
     answer(number_at(line, 8), flags, line, &m, table, masks);
 }

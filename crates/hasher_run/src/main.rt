@@ -8,15 +8,15 @@ mod line;
 mod marked;
 mod nist;
 
+use cases::fill_from;
 use cases::front;
 use cases::line_at;
-use cases::load;
 use cases::next_line;
 use cases::number_at;
 use cases::page;
 use cases::read;
 use cases::say_title;
-use cases::word_at;
+use cases::word_field;
 use table_file::MOST_WORDS;
 use table_file::file_words;
 
@@ -26,7 +26,7 @@ const MASKS: usize = 15626;
 // Bytes of the file with NIST's short messages.
 const SHORT: usize = 3445;
 
-fn same_masks(mask: u32) -> [u32; MASKS]
+fn repeated(mask: u32) -> [u32; MASKS]
     ensures { λ r. ⌜ 15626 ≡ length r ⌝ }
 {
     [mask; MASKS]
@@ -36,10 +36,10 @@ fn same_masks(mask: u32) -> [u32; MASKS]
 fn masks_of(line: &[u8]) -> [u32; MASKS]
     ensures { λ r. ⌜ 15626 ≡ length r ⌝ }
 {
-    let mut masks = same_masks(word_at(line, 2));
+    let mut masks = repeated(word_field(line, 2));
     let at = number_at(line, 3);
     if at < MASKS {
-        masks[at] = word_at(line, 4);
+        masks[at] = word_field(line, 4);
         return masks;
     }
     masks
@@ -98,8 +98,8 @@ fn each(text: &[u8], short: &[u8; SHORT], real: &[u32; MOST_WORDS], control: &[u
 fn with_tables(text: &[u8], short: &[u8; SHORT]) {
     let mut bytes = [0u8; 10496];
     let mut record = [0u8; 328];
-    load(b"real-table.bin", &mut bytes);
-    load(b"control-table.bin", &mut record);
+    fill_from(b"real-table.bin", &mut bytes);
+    fill_from(b"control-table.bin", &mut record);
     each(text, short, &file_words(&bytes), &file_words(&record));
 }
 
@@ -107,6 +107,6 @@ fn main() {
     let mut text = page();
     let mut short = [0u8; SHORT];
     let n = read(b"cases.txt", &mut text);
-    load(b"short-messages.bin", &mut short);
+    fill_from(b"short-messages.bin", &mut short);
     with_tables(&text[..n], &short);
 }

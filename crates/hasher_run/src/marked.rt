@@ -1,11 +1,11 @@
 // A marked block and clean ones behind it: the mark stays until the reset, the flags stay after it.
-use crate::ended::finished;
-use crate::ended::taken;
+use crate::ended::finish_after;
+use crate::ended::in_pieces;
 use cases::field;
-use cases::flags_of;
-use cases::load;
+use cases::fill_from;
+use cases::flags_of_bits;
+use cases::from_field;
 use cases::number_at;
-use cases::rest_of;
 use hasher::Hasher;
 use hasher::reset;
 use printing::say;
@@ -20,7 +20,7 @@ fn state(case: &[u8], h: Hasher) {
 
 // The finish of a hasher after n bytes.
 fn end(case: &[u8], h: Hasher, n: usize, table: &[u32], masks: &[u32]) {
-    let f = finished(h, n, table, masks);
+    let f = finish_after(h, n, table, masks);
     let o = f.outcome;
     let digest = f.digest;
     say(case);
@@ -31,23 +31,23 @@ fn end(case: &[u8], h: Hasher, n: usize, table: &[u32], masks: &[u32]) {
 // The file that field 8 names.
 fn marked(line: &[u8], table: &[u32], masks: &[u32]) -> Hasher {
     let mut m = [0u8; 320];
-    load(field(line, 8), &mut m);
-    let h = Hasher::new(flags_of(number_at(line, 5)));
-    taken(h, &m, line, table, masks)
+    fill_from(field(line, 8), &mut m);
+    let h = Hasher::new(flags_of_bits(number_at(line, 5)));
+    in_pieces(h, &m, line, table, masks)
 }
 
 fn after_reset(h: Hasher, line: &[u8], table: &[u32], masks: &[u32]) {
     let u = reset(h);
     let g = u.hasher;
     state(b"  reset: ", g);
-    let abc = taken(g, b"abc", line, table, masks);
+    let abc = in_pieces(g, b"abc", line, table, masks);
     end(b"  abc after that: ", abc, 3, table, masks);
 }
 
 pub(crate) fn stays(line: &[u8], table: &[u32], masks: &[u32]) {
     let clean = [0u8; 150];
-    state(rest_of(line, 10), marked(line, table, masks));
-    let later = taken(marked(line, table, masks), &clean, line, table, masks);
+    state(from_field(line, 10), marked(line, table, masks));
+    let later = in_pieces(marked(line, table, masks), &clean, line, table, masks);
     state(b"  two blocks on: ", later);
     end(b"  finish: ", later, 150, table, masks);
     after_reset(later, line, table, masks);

@@ -1,9 +1,9 @@
 // NIST's short messages, of 0 to 64 bytes: how many give the published digest, for each way to give them to a hasher.
 ghost use Prim.Native.Nat.{_≤_};
 use crate::ended::end_by;
-use cases::flags_of;
+use cases::flags_of_bits;
+use cases::from_field;
 use cases::number_at;
-use cases::rest_of;
 use hasher::Hasher;
 use printing::say;
 use printing::say_decimal;
@@ -52,7 +52,7 @@ fn equal(digest: &[u8; 20], published: &[u8]) -> usize
 // field 5.
 fn right(line: &[u8], file: &[u8], table: &[u32], masks: &[u32]) -> usize {
     let way = number_at(line, 8);
-    let mut h = Hasher::new(flags_of(number_at(line, 5)));
+    let mut h = Hasher::new(flags_of_bits(number_at(line, 5)));
     let mut count = 0;
     let mut at = 0;
     for i in 0..MESSAGES {
@@ -67,7 +67,7 @@ fn right(line: &[u8], file: &[u8], table: &[u32], masks: &[u32]) -> usize {
 }
 
 pub(crate) fn count(line: &[u8], file: &[u8; 3445], table: &[u32], masks: &[u32]) {
-    say(rest_of(line, 10));
+    say(from_field(line, 10));
     say(b": ");
     say_decimal(right(line, file, table, masks) as u64);
     say(b" of ");

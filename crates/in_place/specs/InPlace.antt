@@ -3,7 +3,7 @@ use mathlib.Core.Path.{_≡_}
 use mathlib.Core.List.{List}
 use Prim.Native.Nat.{ℕ}
 use Rattle.refusal.specs.declared.Refusal.{Refusal}
-use Rattle.stream.specs.Loan.{Loan}
+use Rattle.loan.specs.Loan.{Loan}
 use Rattle.hasher.specs.declared.Hasher.{Hasher}
 use Rattle.update.specs.Update.{updated}
 

@@ -1,6 +1,6 @@
 // An update where the hasher lies, as the Rust's `Update::update` is. It is thin: the by-value update does the work.
 ghost use mathlib.Core.Path.{_≡_};
-ghost use Rattle.stream.specs.Loan.{loanOf};
+ghost use Rattle.loan.specs.Loan.{loanOf};
 ghost use Rattle.update.specs.Update.{updated};
 ghost use Rattle.in_place.specs.InPlace.{InPlace};
 use hasher::Hasher;

@@ -2,93 +2,24 @@
 // the tests that it is of the right form.
 ghost use mathlib.Core.Path.{_≡_};
 ghost use mathlib.Core.Bool.{_&&_};
-ghost use mathlib.Core.List.{[], _∷_};
 ghost use Prim.Native.Nat.{_<_};
 ghost use lib.Dec.{eqb};
 ghost use lib.ListN.{length};
 ghost use Rattle.flags.specs.Flags.{isLent};
 ghost use Rattle.verdict.specs.Verdict.{digestSize};
 ghost use Rattle.layout.specs.Layout.{bitOf, hasWorth, flagsIn, flagsNumber, hasherIn, stateOf, stateFits, hasherFits, newFits, verdictNumber, verdictKnown, verdictFor};
+use copies::pending_in;
+use copies::put_four;
+use copies::put_pending;
+use copies::put_words;
+use copies::words_in;
 use flags::Flags;
 use flags::Masks;
 use hasher::Hasher;
-use octets::store;
+use verdict::DIGEST_SIZE;
 use verdict::Verdict;
 
-pub const DIGEST_SIZE: usize = 20;
-
-// Copies between lent slices and arrays, and the numbers of an answer or a state.
-
-pub fn put_words(out: &mut [u32], w: [u32; 5])
-    requires { ⌜ length (now out) ≡ 5 ⌝ }
-    ensures { λ r. ⌜ now (out .exit) ≡ w ⌝ }
-{
-    out[0] = w[0];
-    out[1] = w[1];
-    out[2] = w[2];
-    out[3] = w[3];
-    out[4] = w[4];
-}
-
-pub fn put_pending(out: &mut [u8], p: [u8; 64])
-    requires { ⌜ length (now out) ≡ 64 ⌝ }
-    ensures { λ r. ⌜ now (out .exit) ≡ p ⌝ }
-{
-    store(out, 0, &p, 64);
-}
-
-pub fn put_digest(out: &mut [u8], d: [u8; DIGEST_SIZE])
-    requires { ⌜ length (now out) ≡ digestSize ⌝ }
-    ensures { λ r. ⌜ now (out .exit) ≡ d ⌝ }
-{
-    store(out, 0, &d, DIGEST_SIZE);
-}
-
-// Two numbers into an answer.
-pub fn put_two(out: &mut [u64], a: u64, b: u64)
-    requires { ⌜ length (now out) ≡ 2 ⌝ }
-    ensures { λ r. ⌜ now (out .exit) ≡ (a ∷ b ∷ []) ⌝ }
-{
-    out[0] = a;
-    out[1] = b;
-}
-
-// Four numbers into an answer or a state.
-pub fn put_four(out: &mut [u64], a: u64, b: u64, c: u64, d: u64)
-    requires { ⌜ length (now out) ≡ 4 ⌝ }
-    ensures { λ r. ⌜ now (out .exit) ≡ (a ∷ b ∷ c ∷ d ∷ []) ⌝ }
-{
-    out[0] = a;
-    out[1] = b;
-    out[2] = c;
-    out[3] = d;
-}
-
-pub fn words_in(s: &[u32]) -> [u32; 5]
-    requires { ⌜ length (now s) ≡ 5 ⌝ }
-    ensures { λ r. ⌜ r ≡ now (s .entry) ⌝ }
-{
-    [s[0], s[1], s[2], s[3], s[4]]
-}
-
-pub fn pending_in(s: &[u8]) -> [u8; 64]
-    requires { ⌜ length (now s) ≡ 64 ⌝ }
-    ensures { λ r. ⌜ r ≡ now (s .entry) ⌝ }
-{
-    let mut p = [0u8; 64];
-    store(&mut p, 0, s, 64);
-    p
-}
-
-pub fn digest_in(s: &[u8]) -> [u8; DIGEST_SIZE]
-    requires { ⌜ length (now s) ≡ digestSize ⌝ }
-    ensures { λ r. ⌜ r ≡ now (s .entry) ⌝ }
-{
-    let mut d = [0u8; DIGEST_SIZE];
-    store(&mut d, 0, s, DIGEST_SIZE);
-    d
-}
-
+// A truth value as a number, 1 or 0.
 pub fn bit_of(b: bool) -> u64
     ensures { λ r. ⌜ r ≡ bitOf b ⌝ }
 {
@@ -106,6 +37,7 @@ pub fn has_worth(x: u64, worth: u64) -> bool
     x / worth % 2 == 1
 }
 
+// The flags that a number stands for, a bit for each: C passes no struct of flags.
 pub fn flags_in(x: u64) -> Flags
     ensures { λ r. ⌜ r ≡ flagsIn x ⌝ }
 {
@@ -118,6 +50,7 @@ pub fn flags_in(x: u64) -> Flags
     plain.use_ubc(has_worth(x, 4))
 }
 
+// Whether masks are lent, as a number: 1 or 0.
 pub fn masks_bit(masks: Masks) -> u64
     ensures { λ r. ⌜ r ≡ bitOf (isLent masks) ⌝ }
 {
@@ -127,6 +60,7 @@ pub fn masks_bit(masks: Masks) -> u64
     }
 }
 
+// The number that stands for flags.
 pub fn flags_number(f: Flags) -> u64
     ensures { λ r. ⌜ r ≡ flagsNumber f ⌝ }
 {
@@ -253,6 +187,7 @@ pub fn put_hasher(words: &mut [u32], pending: &mut [u8], state: &mut [u64], h: H
     );
 }
 
+// The number that stands for a verdict.
 pub fn verdict_number(v: Verdict) -> u64
     ensures { λ r. ⌜ r ≡ verdictNumber v ⌝ }
 {
@@ -263,6 +198,7 @@ pub fn verdict_number(v: Verdict) -> u64
     }
 }
 
+// The verdict that a number from 1 to 3 stands for.
 pub fn verdict_for(x: u32) -> Verdict
     ensures { λ r. ⌜ r ≡ verdictFor x ⌝ }
 {

@@ -1,22 +1,58 @@
 // The calls on a lent sheet: looking a barcode up, and comparing a digest.
 ghost use mathlib.Core.Path.{_≡_};
 ghost use mathlib.Core.List.{[], _∷_};
+ghost use lib.ListN.{length};
+ghost use Rattle.comparison.specs.Compare.{comparedNumber};
 ghost use Rattle.answers.specs.Answers.{left};
-ghost use Rattle.lent_sheet.specs.LentSheet.{lookupCall, compareCall};
+ghost use Rattle.lent_sheet.specs.LentSheet.{comparisonIn, comparedLeft, lookupCall, compareCall};
 use answers::BROKEN_AGREEMENT;
-use answers::leave_compared;
+use comparison::Compared;
+use comparison::Comparison;
+use comparison::compare;
+use copies::digest_in;
+use copies::put_two;
 use layout::digest_fits;
-use layout::digest_in;
-use layout::put_two;
 use layout::verdict_fits;
 use layout::verdict_for;
 use refusal::number;
-use sheet::compare;
 use sheet::lookup;
 use sheet::lookup_refusal;
 use sheet::part_from;
 
-// An exported function can hand back no part of a slice: it says where the part lies.
+// The number that a comparison answers: 0 on a refusal, which its own number says.
+fn comparison_in(c: Compared) -> u64
+    ensures { λ r. ⌜ r ≡ comparisonIn c ⌝ }
+{
+    match c {
+        Compared::Said(a) => match a {
+            Comparison::Match => 1,
+            Comparison::Differs => 2,
+            Comparison::Absent => 3,
+        },
+        Compared::Refused(_) => 0,
+    }
+}
+
+// The number that a comparison gives back: that of its refusal.
+fn compared_number(c: Compared) -> u32
+    ensures { λ r. ⌜ r ≡ comparedNumber c ⌝ }
+{
+    match c {
+        Compared::Said(_) => 0,
+        Compared::Refused(r) => number(r),
+    }
+}
+
+// What a comparison leaves: its answer's number, and 0 where other calls have a place.
+fn leave_compared(answer: &mut [u64], c: Compared) -> u32
+    requires { ⌜ length (now answer) ≡ 2 ⌝ }
+    ensures { λ r. ⌜ left r (now (answer .exit) ∷ []) ≡ comparedLeft c ⌝ }
+{
+    put_two(answer, comparison_in(c), 0);
+    compared_number(c)
+}
+
+// A barcode looked up. An exported function can hand back no part of a slice: it says where the part lies.
 pub fn lookup_lent(sheet: &[u8], code: &[u8], part: &mut [u64]) -> u32
     ensures { λ r. ⌜ left r (now (part .exit) ∷ []) ≡ lookupCall (now (sheet .entry)) (now (code .entry)) (now (part .entry)) ⌝ }
 {
@@ -29,6 +65,7 @@ pub fn lookup_lent(sheet: &[u8], code: &[u8], part: &mut [u64]) -> u32
     number(lookup_refusal(sheet, code))
 }
 
+// A digest and the number of its verdict compared with what the sheet has for a barcode.
 pub fn compare_lent(
     sheet: &[u8],
     code: &[u8],

@@ -8,7 +8,7 @@ use Rattle.verdict.specs.Verdict.{digestSize}
 use Rattle.table.specs.Table.{tableFault}
 use Rattle.detect.specs.Detect.{oneBlockOf}
 use Rattle.detect.specs.declared.Mode.{Mode}
-use Rattle.stream.specs.Loan.{Loan}
+use Rattle.loan.specs.Loan.{Loan}
 use Rattle.one_shot.specs.Whole.{digested}
 use Rattle.answers.specs.Answers.{Left, guarded, blockLeft, digestLeft, refusalLeft}
 

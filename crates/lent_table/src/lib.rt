@@ -1,21 +1,22 @@
 // The calls on a lent table that have no hasher: one block, a whole message in one call, and the check of the table.
 ghost use mathlib.Core.Path.{_≡_};
 ghost use mathlib.Core.List.{[], _∷_};
-ghost use Rattle.stream.specs.Loan.{loanOf};
+ghost use Rattle.loan.specs.Loan.{loanOf};
 ghost use Rattle.answers.specs.Answers.{left};
 ghost use Rattle.lent_table.specs.LentTable.{blockCall, oneShotCall, tableCall};
 use answers::BROKEN_AGREEMENT;
 use answers::leave_block;
 use answers::leave_digest;
 use answers::say;
+use copies::words_in;
 use detect::Mode;
 use detect::one_block;
 use layout::block_fits;
 use layout::digest_fits;
-use layout::words_in;
 use one_shot::one_shot;
 use table::table_fault;
 
+// One block. C passes no struct of settings: mitigation and reduced rounds are truth values.
 pub fn one_block_lent(
     words: &[u32],
     block: &[u8],
@@ -41,6 +42,7 @@ pub fn one_block_lent(
     leave_block(after, answer, o)
 }
 
+// A whole message with the default flags, a mask for each block of it, padding included.
 pub fn one_shot_lent(
     bytes: &[u8],
     digest: &mut [u8],
@@ -59,6 +61,7 @@ pub fn one_shot_lent(
     leave_digest(digest, answer, d, o)
 }
 
+// What is wrong with a table.
 pub fn table_fault_lent(table: &[u32], answer: &mut [u64]) -> u32
     ensures { λ r. ⌜ left r (now (answer .exit) ∷ []) ≡ tableCall (now (table .entry)) (now (answer .entry)) ⌝ }
 {

@@ -11,10 +11,11 @@ use Rattle.line.specs.declared.Line.{Line}
 use Rattle.line.specs.declared.Saying.{Saying}
 use Rattle.line.specs.declared.Saying.the-variants.{Verdict, Refused, Unread}
 
--- a space and a newline, in ASCII
+-- a space, in ASCII
 abbrev pub space : ℕ
 space = 0x20
 
+-- the end of a line, in ASCII
 abbrev pub newline : ℕ
 newline = 0x0A
 

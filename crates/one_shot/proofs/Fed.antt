@@ -11,7 +11,7 @@ use Rattle.refusal.specs.declared.Refusal.the-variants.{Nothing, MessageLength}
 use Rattle.refusal.proofs.Passed.{passed}
 use Rattle.fips.specs.Fips.{mostBytes}
 use Rattle.flags.specs.declared.Flags.{Flags}
-use Rattle.stream.specs.Loan.{Loan, later, loanRefusal}
+use Rattle.loan.specs.Loan.{Loan, later, loanRefusal}
 use Rattle.stream.specs.Fold.{firstChain, folded}
 use Rattle.stream.proofs.Folded.{folded-mark, folded-blocks}
 use Rattle.hasher.specs.Hasher.{wellFormed, freshOf}

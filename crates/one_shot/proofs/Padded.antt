@@ -11,7 +11,7 @@ use Rattle.fips.specs.Fips.{paddingFor, padded}
 use Rattle.fips.proofs.Padded.{tail-is}
 use Rattle.flags.specs.Flags.{usesMasks}
 use Rattle.flags.specs.declared.Flags.{Flags}
-use Rattle.stream.specs.Loan.{Tables, Loan, lend, later}
+use Rattle.loan.specs.Loan.{Tables, Loan, lend, later}
 use Rattle.stream.specs.Fold.{firstChain, blockOf, chained, folded}
 use Rattle.stream.specs.declared.Chain.{Chain}
 use Rattle.stream.proofs.Folds.{chained-masks}

@@ -11,7 +11,7 @@ use Rattle.fips.specs.Fips.{mostBytes, padded}
 use Rattle.fips.specs.Tail.{tailBlocks}
 use Rattle.flags.specs.Flags.{defaults}
 use Rattle.flags.specs.declared.Flags.{Flags}
-use Rattle.stream.specs.Loan.{Loan, loanRefusal}
+use Rattle.loan.specs.Loan.{Loan, loanRefusal}
 use Rattle.stream.specs.Fold.{firstChain, folded}
 use Rattle.stream.specs.declared.Chain.{Chain}
 use Rattle.finish.specs.Finish.{outcomeOf, digestOr}

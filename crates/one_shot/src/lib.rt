@@ -1,6 +1,6 @@
 // A whole message in one call: the update and the finish of a new hasher.
 ghost use mathlib.Core.Path.{_≡_};
-ghost use Rattle.stream.specs.Loan.{loanOf};
+ghost use Rattle.loan.specs.Loan.{loanOf};
 ghost use Rattle.one_shot.specs.Whole.{wholeRefusal, wholeOf, digested};
 use absorb::absorb;
 use finish::Outcome;
@@ -9,10 +9,10 @@ use fips::digest;
 use fips::tail_blocks;
 use flags::Flags;
 use hasher::Hasher;
+use loan::loan_refusal;
+use loan::masks_from;
 use refusal::Refusal;
 use refusal::is_nothing;
-use stream::loan_refusal;
-use stream::masks_from;
 use update::MOST_BYTES;
 use verdict::verdict_of;
 

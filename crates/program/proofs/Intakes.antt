@@ -14,13 +14,14 @@ use Rattle.libc.specs.Io.{Moved}
 use Rattle.refusal.specs.declared.Refusal.the-variants.{Nothing}
 use Rattle.refusal.proofs.Chains.{nothing-is}
 use Rattle.fips.specs.Fips.{mostBytes}
-use Rattle.stream.specs.Loan.{loanOf}
+use Rattle.loan.specs.Loan.{loanOf}
 use Rattle.hasher.specs.Hasher.{taken}
 use Rattle.update.specs.Update.{updated}
 use Rattle.hasher.specs.declared.Hasher.{Hasher}
 use Rattle.update.proofs.Taken.{update-taken, taken-update}
 use Rattle.update.proofs.Absorbed.{pending-after, taken-after}
-use Rattle.program.specs.Reads.{Read, sizeRead, bytesRead, gaveNone, noIntake, messageEnd, intakeBy, intakeWith, intakeOf, Possible}
+use Rattle.reads.specs.Reads.{Read, sizeRead, bytesRead, gaveNone, Possible}
+use Rattle.program.specs.Intakes.{noIntake, messageEnd, intakeBy, intakeWith, intakeOf}
 use Rattle.program.specs.declared.Intake.{Intake}
 
 module _ (h : Hasher) (table : List ℕ) (r : Read) where
@@ -78,21 +79,21 @@ module _ (table : List ℕ) where
       (next (x .more) x _ _ r refl (intake-more rs r (x .hasher)) (rw (intake-cons h table q rs) at e))
 
 -- what was taken in of the reads so far
-pub record SoFar (start : Hasher) (table : List ℕ) (x : Intake) : Type 0 where
+pub record TakenSoFar (start : Hasher) (table : List ℕ) (x : Intake) : Type 0 where
   pub reads : List Read
   pub possible : Possible reads
   pub intake : x ≡ intakeOf start table reads
 
-pub none-yet : (start : Hasher) (table : List ℕ) → SoFar start table (noIntake start)
-none-yet start table = record { reads = []; possible = tt; intake = sym (intake-nil start table) }
+pub none-taken : (start : Hasher) (table : List ℕ) → TakenSoFar start table (noIntake start)
+none-taken start table = record { reads = []; possible = tt; intake = sym (intake-nil start table) }
 
 possible-more : (rs : List Read) (r : Read) → Possible rs → Moved (length (r .buffer)) (r .got) → Possible (rs ++ (r ∷ []))
 possible-more [] r p m = (m, tt)
 possible-more (q ∷ rs) r p m = (p .0, possible-more rs r (p .1) m)
 
-pub one-more : {start : Hasher} {table : List ℕ} {x : Intake} → SoFar start table x → x .more ≡ true → (r : Read) → Moved (length (r .buffer)) (r .got)
-    → SoFar start table (intakeWith (x .hasher) table r)
-one-more {start} {table} s more r may =
+pub taken-more : {start : Hasher} {table : List ℕ} {x : Intake} → TakenSoFar start table x → x .more ≡ true → (r : Read) → Moved (length (r .buffer)) (r .got)
+    → TakenSoFar start table (intakeWith (x .hasher) table r)
+taken-more {start} {table} s more r may =
     record {
       reads = s .reads ++ (r ∷ []);
       possible = possible-more (s .reads) r (s .possible) may;

@@ -1,5 +1,2 @@
-pub mod Signs
 pub mod Intakes
-pub mod Filling
-pub mod Places
 pub mod Replies

@@ -17,18 +17,19 @@ use Rattle.table_file.proofs.Short.{short}
 use Rattle.arguments.specs.Arguments.{flagsOf}
 use Rattle.line.specs.declared.Saying.{Saying}
 use Rattle.line.specs.declared.Saying.the-variants.{Refused}
-use Rattle.program.specs.Reads.{Read, TakesIn}
-use Rattle.program.specs.Files.{File, Contents, contentsOf, inBuffer, checkOf, Loads}
-use Rattle.program.specs.Given.{planOf, Asks}
+use Rattle.reads.specs.Reads.{Read}
+use Rattle.program.specs.Intakes.{TakesIn}
+use Rattle.reads.specs.Files.{File, Contents, contentsOf, inBuffer, checkOf, Loads}
+use Rattle.plan.specs.Given.{planOf, Asks}
 use Rattle.program.specs.Reply.{withoutDigest, intakeReply, replyToMessage, replyWithContents, replyWithFile, planReply, askedReply, programReply, Replies, RepliesWithFile, ProgramReplies}
-use Rattle.program.specs.declared.Asked.{Asked}
+use Rattle.plan.specs.declared.Asked.{Asked}
 use Rattle.program.specs.declared.Intake.{Intake}
-use Rattle.program.specs.declared.Loaded.{Loaded}
-use Rattle.program.specs.declared.Loaded.the-variants.{Bytes, Failed}
-use Rattle.program.specs.declared.Plan.{Plan}
+use Rattle.reads.specs.declared.Loaded.{Loaded}
+use Rattle.reads.specs.declared.Loaded.the-variants.{Bytes, Failed}
+use Rattle.plan.specs.declared.Plan.{Plan}
 use Rattle.program.specs.declared.Reply.{Reply}
-use Rattle.program.specs.declared.TableCheck.{TableCheck}
-use Rattle.program.specs.declared.TableCheck.the-variants.{Sound, Says}
+use Rattle.reads.specs.declared.TableCheck.{TableCheck}
+use Rattle.reads.specs.declared.TableCheck.the-variants.{Sound, Unusable}
 
 -- what was taken in to its end has a reply
 pub takes-in-replies : {f : Flags} {table : List ℕ} {x : Intake} (e : TakesIn (freshOf f) table x) → replyToMessage f table (e .reads) ≡ some (intakeReply x table)
@@ -45,7 +46,7 @@ unfolding fileFault
 file-short bytes e = short (length bytes) (whole _ _ e)
 
 -- a sound file was read, and nothing is wrong with it
-sound-by : (b : Bool) (m n : ℕ) (s : Saying) → pick b (Sound m) (Says s) ≡ Sound n → (m ≡ n) × (b ≡ true)
+sound-by : (b : Bool) (m n : ℕ) (s : Saying) → pick b (Sound m) (Unusable s) ≡ Sound n → (m ≡ n) × (b ≡ true)
 sound-by true m n s e = (cc, refl)
 sound-by false m n s e = let z : _≡_ {A = ℕ} 0 1 = cc in absurd (omega arith)
 
@@ -61,10 +62,10 @@ sound-fits {buffer} {r} l n e = rw (check-sound r buffer n e .0) at (l .fits)
 -- the reply with a file in a buffer, by its check
 abbrev checkReply : TableCheck → Flags → List ℕ → List Read → Option Reply
 checkReply (Sound n) f buffer reads = replyToMessage f (tableOf (take n buffer)) reads
-checkReply (Says s) f buffer reads = some (withoutDigest s)
+checkReply (Unusable s) f buffer reads = some (withoutDigest s)
 
 checked-by : (b : Bool) (n : ℕ) (s : Saying) (f : Flags) (buffer : List ℕ) (reads : List Read)
-    → pick b (replyToMessage f (tableOf (take n buffer)) reads) (some (withoutDigest s)) ≡ checkReply (pick b (Sound n) (Says s)) f buffer reads
+    → pick b (replyToMessage f (tableOf (take n buffer)) reads) (some (withoutDigest s)) ≡ checkReply (pick b (Sound n) (Unusable s)) f buffer reads
 checked-by true n s f buffer reads = refl
 checked-by false n s f buffer reads = refl
 
@@ -86,7 +87,7 @@ module _ {buffer : List ℕ} {r : Loaded} (l : Loads buffer r) (long : length bu
   sound-replies n e s =
       record { files = λ i. l .file; replies = record { reads = s .reads; possible = s .possible; replied = with-file (s .reads) e ∙ s .replied } }
 
-  pub said-replies : (s : Saying) → checkOf r buffer ≡ Says s → RepliesWithFile f place (withoutDigest s)
+  pub said-replies : (s : Saying) → checkOf r buffer ≡ Unusable s → RepliesWithFile f place (withoutDigest s)
   said-replies s e = record { files = λ i. l .file; replies = record { reads = []; possible = tt; replied = with-file [] e } }
 
 -- the replies that what is asked leads to

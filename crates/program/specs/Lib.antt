@@ -1,4 +1,2 @@
-pub mod Reads
-pub mod Files
-pub mod Given
+pub mod Intakes
 pub mod Reply

@@ -10,7 +10,7 @@ use Rattle.flags.specs.declared.Flags.{Flags}
 use Rattle.hasher.specs.Hasher.{freshOf}
 use Rattle.table_file.specs.File.{mostFileBytes, tableOf, fileFault}
 use Rattle.verdict.specs.Verdict.{digestSize}
-use Rattle.stream.specs.Loan.{loanOf}
+use Rattle.loan.specs.Loan.{loanOf}
 use Rattle.finish.specs.Finish.{finished}
 use Rattle.finish.specs.declared.Finished.{Finished}
 use Rattle.finish.specs.declared.Outcome.{Outcome}
@@ -18,13 +18,14 @@ use Rattle.finish.specs.declared.Outcome.the-variants.{Done, Refused}
 use Rattle.arguments.specs.Arguments.{flagsOf}
 use Rattle.line.specs.declared.Saying.{Saying}
 use Rattle.line.specs.declared.Saying.the-variants.{Verdict as SayVerdict, Refused as SayRefused, Unread}
-use Rattle.program.specs.Reads.{Read, intakeOf, Possible}
-use Rattle.program.specs.Files.{File, Contents, holds, unreadable, unfinished, contentsOf}
-use Rattle.program.specs.Given.{Argument, askedOf, planOf}
-use Rattle.program.specs.declared.Asked.{Asked}
+use Rattle.reads.specs.Reads.{Read, Possible}
+use Rattle.program.specs.Intakes.{intakeOf}
+use Rattle.reads.specs.Files.{File, Contents, holds, unreadable, unfinished, contentsOf}
+use Rattle.plan.specs.Given.{Argument, askedOf, planOf}
+use Rattle.plan.specs.declared.Asked.{Asked}
 use Rattle.program.specs.declared.Intake.{Intake}
-use Rattle.program.specs.declared.Plan.{Plan}
-use Rattle.program.specs.declared.Plan.the-variants.{Says, TableAt, NoTable}
+use Rattle.plan.specs.declared.Plan.{Plan}
+use Rattle.plan.specs.declared.Plan.the-variants.{AtOnce, TableAt, NoTable}
 use Rattle.program.specs.declared.Reply.{Reply}
 
 -- a reply with no digest
@@ -64,7 +65,7 @@ replyWithFile f file reads = replyWithContents f (contentsOf (mostFileBytes + 1)
 
 -- the reply by what is done: what is said at once, or the reply to the message, with a file's table or with none
 abbrev pub planReply : Plan → Flags → (ℕ → File) → List Read → Option Reply
-planReply (Says s) f files reads = some (withoutDigest s)
+planReply (AtOnce s) f files reads = some (withoutDigest s)
 planReply (TableAt place) f files reads = replyWithFile f (files place) reads
 planReply NoTable f files reads = replyToMessage f [] reads
 

@@ -13,8 +13,7 @@ use Rattle.refusal.proofs.Chains.{decided}
 use Rattle.arguments.specs.Arguments.{isTable, isRaw, isUnknown, kindOf, count, settingOf}
 use Rattle.arguments.specs.declared.ArgumentKind.{ArgumentKind}
 use Rattle.arguments.specs.declared.ArgumentKind.the-variants.{Table, Raw, Unknown}
-use Rattle.program.specs.Given.{Argument, isZero, kindRead, kindsRead}
-use Rattle.program_claims.specs.Grounds.{askedBy}
+use Rattle.plan.specs.Given.{Argument, isZero, kindRead, kindsRead, settingRead}
 use Rattle.program_claims.specs.Sixteen.{SomeUnknown, unfetched, unknown, further, BadArguments, one-unknown, two-tables, two-raws}
 
 -- an argument that counts as unknown
@@ -53,13 +52,13 @@ module _ (args : List Argument) where
   bad-by (inr (inl e)) = two-raws (ltb-true 1 (count isRaw (kindsRead args)) e)
   bad-by (inr (inr e)) = one-unknown (some-unknown args (ltb-true 0 (count isUnknown (kindsRead args)) e))
 
-  bad-only : askedBy args .bad ≡ true → BadArguments args
+  bad-only : settingRead args .bad ≡ true → BadArguments args
   unfolding settingOf
   bad-only e =
       bad-by (⊎-map (λ x. x) (one-true (ltb 1 (count isRaw (kindsRead args))) (ltb 0 (count isUnknown (kindsRead args))))
       (one-true (ltb 1 (count isTable (kindsRead args))) (ltb 1 (count isRaw (kindsRead args)) || ltb 0 (count isUnknown (kindsRead args))) e))
 
-  bad-always : BadArguments args → askedBy args .bad ≡ true
+  bad-always : BadArguments args → settingRead args .bad ≡ true
   unfolding settingOf
   bad-always (two-tables h) = rw (lt-ltb 1 (count isTable (kindsRead args)) h)
   bad-always (two-raws h) = rw (lt-ltb 1 (count isRaw (kindsRead args)) h) (or-true (ltb 1 (count isTable (kindsRead args))))
@@ -68,8 +67,8 @@ module _ (args : List Argument) where
       (or-true (ltb 1 (count isTable (kindsRead args))))
 
   -- The arguments are bad exactly when one is unknown, repeated or could not be fetched.
-  pub bad-exactly : (askedBy args .bad ≡ true) ↔ BadArguments args
+  pub bad-exactly : (settingRead args .bad ≡ true) ↔ BadArguments args
   bad-exactly = (bad-only, bad-always)
 
-  pub good-exactly : (askedBy args .bad ≡ false) ↔ (BadArguments args → ⊥)
-  good-exactly = decided (askedBy args .bad) (BadArguments args) bad-exactly .off
+  pub good-exactly : (settingRead args .bad ≡ false) ↔ (BadArguments args → ⊥)
+  good-exactly = decided (settingRead args .bad) (BadArguments args) bad-exactly .off

@@ -8,10 +8,11 @@ use borrow.Author.Tests.{ltb-false}
 use lib.Dec.{ltb}
 use lib.ListN.{length}
 use Rattle.word.specs.Choice.{pick}
-use Rattle.program.specs.Reads.{Read, below0, bytesRead, gaveNone}
-use Rattle.program.specs.Files.{File, Contents, holds, unreadable, unfinished, endedBy, filling, contentsOf}
+use Rattle.reads.specs.Reads.{Read, below0, bytesRead, gaveNone}
+use Rattle.reads.specs.Files.{File, Contents, holds, unreadable, unfinished, endedBy, filling, contentsOf}
 use Rattle.program_claims.specs.Ends.{messageOf}
 use Rattle.program_claims.specs.Grounds.{Rest}
+use Rattle.program_claims.proofs.Ends.{ends-here, ends-after}
 
 -- what a file holds, or the bytes otherwise given
 abbrev heldOr : List ℕ → Contents → List ℕ
@@ -31,7 +32,7 @@ module _ (most : ℕ) (file : List ℕ) where
   at-end true r rs bytes k e h = absurd (false≢true (ap isHeld h))
   at-end false r rs bytes k e h =
       record {
-        end = record { before = []; last = r; after = rs; parts = refl; gave = tt; none = e };
+        end = ends-here r rs e;
         unfailed = k;
         whole = sym (ap (heldOr []) h) ∙ sym (append-nil bytes);
       }
@@ -39,18 +40,10 @@ module _ (most : ℕ) (file : List ℕ) where
   -- one that gives some
   in-front : (r : Read) (rs : List Read) (bytes : List ℕ) → gaveNone r ≡ false → Rest (bytes ++ bytesRead r) rs file → Rest bytes (r ∷ rs) file
   in-front r rs bytes e x =
-      let y = x .end in
       record {
-        end = record {
-          before = r ∷ y .before;
-          last = y .last;
-          after = y .after;
-          parts = ap (λ (qs : List Read). r ∷ qs) (y .parts);
-          gave = (e, y .gave);
-          none = y .none;
-        };
+        end = ends-after r e (x .end);
         unfailed = x .unfailed;
-        whole = x .whole ∙ append-assoc bytes (bytesRead r) (messageOf (y .before));
+        whole = x .whole ∙ append-assoc bytes (bytesRead r) (messageOf (x .end .before));
       }
 
   full : (bytes : List ℕ) → ltb (length bytes) most ≡ false → holds bytes ≡ holds file → most ≤ length file

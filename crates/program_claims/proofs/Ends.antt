@@ -13,14 +13,31 @@ use Rattle.io.specs.Counts.{clamped}
 use Rattle.libc.specs.Io.{Moved}
 use Rattle.refusal.specs.Refusal.{isNothing}
 use Rattle.refusal.specs.declared.Refusal.the-variants.{Nothing}
-use Rattle.stream.specs.Loan.{tablesOf, loanOf}
+use Rattle.loan.specs.Loan.{tablesOf, loanOf}
 use Rattle.update.specs.Update.{updated}
 use Rattle.hasher.specs.declared.Hasher.{Hasher}
 use Rattle.claims.specs.Pieces.{Piece, piecewise}
 use Rattle.claims.proofs.Piecewise.{piecewise-nil, piecewise-cons}
-use Rattle.program.specs.Reads.{Read, below0, bytesRead, gaveNone, messageEnd, intakeBy, intakeOf, Possible}
+use Rattle.reads.specs.Reads.{Read, below0, bytesRead, gaveNone, Possible}
+use Rattle.program.specs.Intakes.{messageEnd, intakeBy, intakeOf}
 use Rattle.program_claims.specs.Ends.{calls, AllGave, Ends, Passed}
 use Rattle.program.proofs.Intakes.{with-end, with-bytes, intake-nil, intake-cons}
+
+-- reads that end at the first, which gave none
+abbrev pub ends-here : (r : Read) (rs : List Read) → gaveNone r ≡ true → Ends (r ∷ rs)
+ends-here r rs e = record { before = []; last = r; after = rs; parts = refl; gave = tt; none = e }
+
+-- reads that end so, with one that gave bytes in front
+abbrev pub ends-after : (r : Read) {rs : List Read} → gaveNone r ≡ false → Ends rs → Ends (r ∷ rs)
+ends-after r e x =
+    record {
+      before = r ∷ x .before;
+      last = x .last;
+      after = x .after;
+      parts = ap (λ (qs : List Read). r ∷ qs) (x .parts);
+      gave = (e, x .gave);
+      none = x .none;
+    }
 
 -- where the last read did not fail, it answered 0
 none-zero : (z : ℤ) (n : ℕ) → Moved n z → eqb (clamped z n) 0 ≡ true → below0 z ≡ false → z ≡ pos 0
@@ -80,17 +97,9 @@ module _ (table : List ℕ) where
   in-front : (h : Hasher) (r : Read) (rs : List Read) → gaveNone r ≡ false → isNothing (updated h (bytesRead r) (loanOf table []) .refusal) ≡ true
       → Stops (updated h (bytesRead r) (loanOf table []) .hasher) rs → Stops h (r ∷ rs)
   in-front h r rs e t s =
-      let x = s .end in
       record {
-        end = record {
-          before = r ∷ x .before;
-          last = x .last;
-          after = x .after;
-          parts = ap (λ (qs : List Read). r ∷ qs) (x .parts);
-          gave = (e, x .gave);
-          none = x .none;
-        };
-        passed = rw (piecewise-cons h (tablesOf table) (record { bytes = bytesRead r; masks = [] }) (calls (x .before)), t) (s .passed);
+        end = ends-after r e (s .end);
+        passed = rw (piecewise-cons h (tablesOf table) (record { bytes = bytesRead r; masks = [] }) (calls (s .end .before)), t) (s .passed);
       }
 
   -- where there is no more to read and nothing was refused, the reads stop so
@@ -98,7 +107,7 @@ module _ (table : List ℕ) where
       → ((g : Hasher) → intakeOf g table rs .more ≡ false → intakeOf g table rs .refusal ≡ Nothing → Stops g rs)
       → intakeOf h table (r ∷ rs) .more ≡ false → intakeOf h table (r ∷ rs) .refusal ≡ Nothing → Stops h (r ∷ rs)
   stop-by true b r rs h e t next m n =
-      record { end = record { before = []; last = r; after = rs; parts = refl; gave = tt; none = e }; passed = rw (piecewise-nil h (tablesOf table)) }
+      record { end = ends-here r rs e; passed = rw (piecewise-nil h (tablesOf table)) }
   stop-by false true r rs h e t next m n = let s = steps h r rs e t in in-front h r rs e t (next _ (rw s at m) (rw s at n))
   stop-by false false r rs h e t next m n = absurd (false≢true (sym t ∙ ap isNothing (rw (refused-at h r rs e t) at n)))
 

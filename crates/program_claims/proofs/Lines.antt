@@ -8,7 +8,7 @@ use lib.Dec.{lit≤}
 use lib.ListN.{length}
 use Rattle.word.specs.Word.{rotl, not32, Ch, Maj}
 use Rattle.word.specs.Lists.{listOf}
-use Rattle.stream.specs.Loan.{tablesOf}
+use Rattle.loan.specs.Loan.{tablesOf}
 use Rattle.step.specs.Step.{stepWith, fAt, kAt, stepAt, stepsOf}
 use Rattle.block.specs.Schedule.{scheduled}
 use Rattle.block.specs.Compress.{overSchedule, compressOf}
@@ -16,16 +16,16 @@ use Rattle.verdict.specs.declared.Verdict.the-variants.{Ok}
 use Rattle.octets.specs.Octets.{bytes64}
 use Rattle.fips.specs.Fips.{mostBytes, hashBlocks, digestOf, sha1}
 use Rattle.flags.specs.declared.Flags.{Flags}
-use Rattle.arguments.specs.Arguments.{settingOf, flagsOf}
+use Rattle.arguments.specs.Arguments.{flagsOf}
 use Rattle.line.specs.Line.{hexOf, verdictText, lineOf}
 use Rattle.line.specs.declared.Saying.the-variants.{Verdict}
 use Rattle.arguments.specs.declared.Setting.{Setting}
 use Rattle.arguments.proofs.Settings.{setting-none}
 use Rattle.claims.specs.Pieces.{hashed}
 use Rattle.claims.proofs.Every.{none-refused-off, every-message}
-use Rattle.program.specs.Reads.{Read, below0}
-use Rattle.program.specs.Files.{File}
-use Rattle.program.specs.Given.{Argument, kindsRead}
+use Rattle.reads.specs.Reads.{Read, below0}
+use Rattle.reads.specs.Files.{File}
+use Rattle.plan.specs.Given.{Argument, settingRead}
 use Rattle.program.specs.Reply.{finishReply, programReply}
 use Rattle.program.specs.declared.Reply.{Reply}
 use Rattle.program_claims.specs.Ends.{calls, messageOf, Ends}
@@ -37,11 +37,11 @@ undetected : (f : Flags) (rs : List Read) → f .detect ≡ false → length (me
 undetected f rs off short = ap finishReply (every-message f (tablesOf []) (calls rs) [] short off)
 
 -- With no bad argument and no table, a message that is read to its end has the verdict ok and FIPS 180-4's digest, in whatever pieces it comes.
-pub no-table : (args : List Argument) (files : ℕ → File) (reads : List Read) → settingOf (kindsRead args) .bad ≡ false → settingOf (kindsRead args) .table ≡ false
+pub no-table : (args : List Argument) (files : ℕ → File) (reads : List Read) → settingRead args .bad ≡ false → settingRead args .table ≡ false
     → (e : Ends reads) → below0 (e .last .got) ≡ false → length (messageOf (e .before)) ≤ mostBytes
     → programReply args files reads ≡ some (record { saying = Verdict Ok; digest = sha1 (messageOf (e .before)) })
 no-table args files reads good off e unfailed short =
-    let f = flagsOf (settingOf (kindsRead args)) in
+    let f = flagsOf (settingRead args) in
     reply-with args files reads good (unasked off)
     ∙ end-says f [] reads e (none-refused-off f (tablesOf []) (calls (e .before)) [] short off .updates) unfailed
     ∙ ap some (undetected f (e .before) off short)

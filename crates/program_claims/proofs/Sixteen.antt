@@ -4,18 +4,17 @@ use mathlib.Core.Logic.{_↔_}
 use mathlib.Core.Bool.{Bool, true, false}
 use mathlib.Core.List.{List, []}
 use mathlib.Core.Option.{none, some}
-use Prim.Native.Nat.{ℕ, _≤_}
+use Prim.Native.Nat.{ℕ}
 use native.Mathlib.Omega.{arith}
-use lib.Dec.{lit≤}
 use Rattle.word.specs.Choice.{pick}
 use Rattle.refusal.specs.Refusal.{numberOf, isNothing}
 use Rattle.refusal.specs.declared.Refusal.{Refusal}
-use Rattle.refusal.specs.declared.Refusal.the-variants.{Nothing, HasherForm, TableLength, MaskNumber, TestStep, DmRule, MaskCount, MessageLength, Size, SheetLength}
+use Rattle.refusal.proofs.Small.{number-low}
 use Rattle.refusal.proofs.Chains.{nothing-is}
 use Rattle.flags.specs.declared.Flags.{Flags}
 use Rattle.hasher.specs.Hasher.{freshOf}
 use Rattle.table_file.specs.File.{tableOf, fileFault}
-use Rattle.stream.specs.Loan.{loanOf}
+use Rattle.loan.specs.Loan.{loanOf}
 use Rattle.finish.specs.Finish.{finished}
 use Rattle.finish.specs.declared.Finished.{Finished}
 use Rattle.finish.specs.declared.Outcome.{Outcome}
@@ -23,14 +22,15 @@ use Rattle.finish.specs.declared.Outcome.the-variants.{Done, Refused}
 use Rattle.arguments.specs.Arguments.{flagsOf}
 use Rattle.line.specs.Line.{sayingNumber}
 use Rattle.line.specs.declared.Saying.the-variants.{Refused as SayRefused, Unread}
-use Rattle.program.specs.Reads.{Read, intakeOf}
-use Rattle.program.specs.Files.{File, Contents, holds, unreadable, unfinished}
-use Rattle.program.specs.Given.{Argument, kindsRead, tablePlace}
+use Rattle.reads.specs.Reads.{Read}
+use Rattle.program.specs.Intakes.{intakeOf}
+use Rattle.reads.specs.Files.{File, Contents, holds, unreadable, unfinished}
+use Rattle.plan.specs.Given.{Argument, kindsRead, settingRead, tablePlace}
 use Rattle.program.specs.Reply.{withoutDigest, outcomeReply, finishReply, intakeReply, replyToMessage, replyWithContents, planReply, programReply, ProgramReplies}
 use Rattle.program.specs.declared.Intake.{Intake}
-use Rattle.program.specs.declared.Plan.the-variants.{Says, TableAt, NoTable}
+use Rattle.plan.specs.declared.Plan.the-variants.{AtOnce, TableAt, NoTable}
 use Rattle.program.specs.declared.Reply.{Reply}
-use Rattle.program_claims.specs.Grounds.{unasked, checked, askedBy, fileGiven}
+use Rattle.program_claims.specs.Grounds.{unasked, checked, fileGiven}
 use Rattle.program_claims.specs.Sixteen.{numberSaid, MessageUnread, SixteenGrounds, by-arguments, by-file, by-message}
 use Rattle.program_claims.proofs.Ends.{stop, intake-end-at}
 use Rattle.program_claims.proofs.Verdicts.{reply-failed}
@@ -38,18 +38,6 @@ use Rattle.program_claims.proofs.Bad.{bad-exactly, good-exactly}
 use Rattle.program_claims.proofs.Unread.{unread-exactly}
 
 -- no refusal of the library has that number
-number-low : (r : Refusal) → numberOf r ≤ 9
-number-low Nothing = lit≤ tt
-number-low HasherForm = lit≤ tt
-number-low TableLength = lit≤ tt
-number-low (MaskNumber i) = lit≤ tt
-number-low (TestStep i) = lit≤ tt
-number-low (DmRule i) = lit≤ tt
-number-low MaskCount = lit≤ tt
-number-low MessageLength = lit≤ tt
-number-low Size = lit≤ tt
-number-low SheetLength = lit≤ tt
-
 refusal-other : (r : Refusal) → numberOf r ≡ 16 → ⊥
 refusal-other r e = omega (arith, number-low r)
 
@@ -87,25 +75,25 @@ sound-by true f file reads t e = (t, e)
 sound-by false f file reads t e = absurd (refusal-other (fileFault file) e)
 
 module _ (args : List Argument) (files : ℕ → File) (reads : List Read) where
-  with-file : (c : Contents) → fileGiven args files ≡ c → askedBy args .bad ≡ false → askedBy args .table ≡ true
-      → numberSaid (replyWithContents (flagsOf (askedBy args)) c reads) ≡ 16 → SixteenGrounds args files reads
+  with-file : (c : Contents) → fileGiven args files ≡ c → settingRead args .bad ≡ false → settingRead args .table ≡ true
+      → numberSaid (replyWithContents (flagsOf (settingRead args)) c reads) ≡ 16 → SixteenGrounds args files reads
   unfolding replyWithContents
   with-file (holds file) g b t e =
-      let k = sound-by _ (flagsOf (askedBy args)) file reads refl e in
-      by-message (good-exactly args .0 b) (checked t g (k .0)) (message-only (flagsOf (askedBy args)) (tableOf file) reads (k .1))
+      let k = sound-by _ (flagsOf (settingRead args)) file reads refl e in
+      by-message (good-exactly args .0 b) (checked t g (k .0)) (message-only (flagsOf (settingRead args)) (tableOf file) reads (k .1))
   with-file unreadable g b t e = by-file (good-exactly args .0 b) t (unread-exactly (files (tablePlace (kindsRead args))) .0 g)
   with-file unfinished g b t e = absurd (none-other e)
 
-  by-setting : (bad table : Bool) → askedBy args .bad ≡ bad → askedBy args .table ≡ table
-      → numberSaid (planReply (pick bad (Says Unread) (pick table (TableAt (tablePlace (kindsRead args))) NoTable)) (flagsOf (askedBy args)) files reads) ≡ 16
+  by-setting : (bad table : Bool) → settingRead args .bad ≡ bad → settingRead args .table ≡ table
+      → numberSaid (planReply (pick bad (AtOnce Unread) (pick table (TableAt (tablePlace (kindsRead args))) NoTable)) (flagsOf (settingRead args)) files reads) ≡ 16
       → SixteenGrounds args files reads
   by-setting true table b t e = by-arguments (bad-exactly args .0 b)
   by-setting false true b t e = with-file (fileGiven args files) refl b t e
-  by-setting false false b t e = by-message (good-exactly args .0 b) (unasked t) (message-only (flagsOf (askedBy args)) [] reads e)
+  by-setting false false b t e = by-message (good-exactly args .0 b) (unasked t) (message-only (flagsOf (settingRead args)) [] reads e)
 
   sixteen-only : numberSaid (programReply args files reads) ≡ 16 → SixteenGrounds args files reads
   unfolding programReply
-  sixteen-only e = by-setting (askedBy args .bad) (askedBy args .table) refl refl e
+  sixteen-only e = by-setting (settingRead args .bad) (settingRead args .table) refl refl e
 
   sixteen-always : SixteenGrounds args files reads → numberSaid (programReply args files reads) ≡ 16
   unfolding programReply replyWithContents

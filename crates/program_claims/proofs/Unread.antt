@@ -10,10 +10,11 @@ use lib.Dec.{ltb}
 use lib.ListN.{length, length-append}
 use Rattle.word.specs.Choice.{pick}
 use Rattle.table_file.specs.File.{mostFileBytes}
-use Rattle.program.specs.Reads.{Read, below0, bytesRead, gaveNone}
-use Rattle.program.specs.Files.{File, Contents, holds, unreadable, unfinished, endedBy, filling, contentsOf}
+use Rattle.reads.specs.Reads.{Read, below0, bytesRead, gaveNone}
+use Rattle.reads.specs.Files.{File, Contents, holds, unreadable, unfinished, endedBy, filling, contentsOf}
 use Rattle.program_claims.specs.Ends.{messageOf, AllGave}
 use Rattle.program_claims.specs.Sixteen.{ReadFails, FileUnread, unopened, unended}
+use Rattle.program_claims.proofs.Ends.{ends-here, ends-after}
 
 abbrev isUnread : Contents → Bool
 isUnread (holds file) = false
@@ -25,24 +26,16 @@ module _ (most : ℕ) where
   at-end : (f : Bool) (r : Read) (rs : List Read) (bytes : List ℕ) → below0 (r .got) ≡ f → gaveNone r ≡ true → length bytes < most
       → pick f unreadable (holds bytes) ≡ unreadable → ReadFails most bytes (r ∷ rs)
   at-end true r rs bytes k e l h =
-      record { end = record { before = []; last = r; after = rs; parts = refl; gave = tt; none = e }; failed = k; room = rw (append-nil bytes) l }
+      record { end = ends-here r rs e; failed = k; room = rw (append-nil bytes) l }
   at-end false r rs bytes k e l h = absurd (false≢true (ap isUnread h))
 
   -- one that gives some
   in-front : (r : Read) (rs : List Read) (bytes : List ℕ) → gaveNone r ≡ false → ReadFails most (bytes ++ bytesRead r) rs → ReadFails most bytes (r ∷ rs)
   in-front r rs bytes e x =
-      let y = x .end in
       record {
-        end = record {
-          before = r ∷ y .before;
-          last = y .last;
-          after = y .after;
-          parts = ap (λ (qs : List Read). r ∷ qs) (y .parts);
-          gave = (e, y .gave);
-          none = y .none;
-        };
+        end = ends-after r e (x .end);
         failed = x .failed;
-        room = rw (append-assoc bytes (bytesRead r) (messageOf (y .before))) at (x .room);
+        room = rw (append-assoc bytes (bytesRead r) (messageOf (x .end .before))) at (x .room);
       }
 
   turn : (room gave : Bool) (r : Read) (rs : List Read) (bytes : List ℕ) → ltb (length bytes) most ≡ room → gaveNone r ≡ gave

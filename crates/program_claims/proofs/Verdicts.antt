@@ -12,7 +12,7 @@ use Rattle.verdict.specs.declared.Verdict.{Verdict}
 use Rattle.flags.specs.declared.Flags.{Flags}
 use Rattle.hasher.specs.Hasher.{freshOf}
 use Rattle.table_file.specs.File.{tableOf, fileFault}
-use Rattle.stream.specs.Loan.{tablesOf, loanOf}
+use Rattle.loan.specs.Loan.{tablesOf, loanOf}
 use Rattle.finish.specs.Finish.{finished}
 use Rattle.finish.specs.declared.Outcome.{Outcome}
 use Rattle.finish.specs.declared.Outcome.the-variants.{Done, Refused}
@@ -20,15 +20,16 @@ use Rattle.claims.specs.Pieces.{hashed}
 use Rattle.arguments.specs.Arguments.{flagsOf}
 use Rattle.line.specs.declared.Saying.{Saying}
 use Rattle.line.specs.declared.Saying.the-variants.{Verdict as SayVerdict, Refused as SayRefused, Unread}
-use Rattle.program.specs.Reads.{Read, below0, intakeOf, Possible}
-use Rattle.program.specs.Files.{File, Contents, holds, unreadable, unfinished}
-use Rattle.program.specs.Given.{Argument, kindsRead, tablePlace}
+use Rattle.reads.specs.Reads.{Read, below0, Possible}
+use Rattle.program.specs.Intakes.{intakeOf}
+use Rattle.reads.specs.Files.{File, Contents, holds, unreadable, unfinished}
+use Rattle.plan.specs.Given.{Argument, kindsRead, settingRead, tablePlace}
 use Rattle.program.specs.Reply.{withoutDigest, outcomeReply, finishReply, intakeReply, replyToMessage, replyWithContents, planReply, programReply, ProgramReplies}
 use Rattle.program.specs.declared.Intake.{Intake}
-use Rattle.program.specs.declared.Plan.the-variants.{Says, TableAt, NoTable}
+use Rattle.plan.specs.declared.Plan.the-variants.{AtOnce, TableAt, NoTable}
 use Rattle.program.specs.declared.Reply.{Reply}
 use Rattle.program_claims.specs.Ends.{calls, Ends, Passed}
-use Rattle.program_claims.specs.Grounds.{saysVerdict, ReadToEnd, TableOf, unasked, checked, askedBy, fileGiven, VerdictGrounds}
+use Rattle.program_claims.specs.Grounds.{saysVerdict, ReadToEnd, TableOf, unasked, checked, fileGiven, VerdictGrounds}
 use Rattle.program_claims.proofs.Ends.{end-zero, stop, intake-end-at}
 
 -- whether a verdict is said
@@ -99,38 +100,38 @@ file-by false f file reads t v e = absurd (false≢true (ap isVerdict e ∙ v))
 
 module _ (args : List Argument) (files : ℕ → File) (reads : List Read) where
   -- With no bad argument the reply is that to the message, with the table that the arguments ask.
-  pub reply-with : {table : List ℕ} → askedBy args .bad ≡ false → TableOf (askedBy args) (fileGiven args files) table
-      → programReply args files reads ≡ replyToMessage (flagsOf (askedBy args)) table reads
+  pub reply-with : {table : List ℕ} → settingRead args .bad ≡ false → TableOf (settingRead args) (fileGiven args files) table
+      → programReply args files reads ≡ replyToMessage (flagsOf (settingRead args)) table reads
   unfolding programReply replyWithContents
   reply-with b (unasked t) = rw (b, t)
   reply-with b (checked t g k) = rw (b, t, g, k)
 
   -- Then a read that fails is said to be 16 where nothing was refused before.
-  pub reply-failed : {table : List ℕ} → askedBy args .bad ≡ false → TableOf (askedBy args) (fileGiven args files) table
-      → (e : Ends reads) → Passed (freshOf (flagsOf (askedBy args))) table e → below0 (e .last .got) ≡ true → programReply args files reads ≡ some (withoutDigest Unread)
-  reply-failed b t e p u = reply-with b t ∙ failed-says (flagsOf (askedBy args)) _ reads e p u
+  pub reply-failed : {table : List ℕ} → settingRead args .bad ≡ false → TableOf (settingRead args) (fileGiven args files) table
+      → (e : Ends reads) → Passed (freshOf (flagsOf (settingRead args))) table e → below0 (e .last .got) ≡ true → programReply args files reads ≡ some (withoutDigest Unread)
+  reply-failed b t e p u = reply-with b t ∙ failed-says (flagsOf (settingRead args)) _ reads e p u
 
 module _ (args : List Argument) (files : ℕ → File) (reads : List Read) (p : Possible reads) (v : Verdict) (digest : List ℕ) where
-  with-file : (c : Contents) → fileGiven args files ≡ c → askedBy args .bad ≡ false → askedBy args .table ≡ true → replyWithContents (flagsOf (askedBy args)) c reads ≡ some (saysVerdict v digest)
+  with-file : (c : Contents) → fileGiven args files ≡ c → settingRead args .bad ≡ false → settingRead args .table ≡ true → replyWithContents (flagsOf (settingRead args)) c reads ≡ some (saysVerdict v digest)
       → VerdictGrounds args files reads v digest
   unfolding replyWithContents
   with-file (holds file) g b t e =
-      let k = file-by _ (flagsOf (askedBy args)) file reads refl refl e in
-      record { good = b; table = tableOf file; whence = checked t g (k .0); read = verdict-read (flagsOf (askedBy args)) (tableOf file) reads p (k .1) }
+      let k = file-by _ (flagsOf (settingRead args)) file reads refl refl e in
+      record { good = b; table = tableOf file; whence = checked t g (k .0); read = verdict-read (flagsOf (settingRead args)) (tableOf file) reads p (k .1) }
   with-file unreadable g b t e = absurd (false≢true (ap isVerdict e))
   with-file unfinished g b t e = absurd (false≢true (ap isVerdict e))
 
-  by-setting : (bad table : Bool) → askedBy args .bad ≡ bad → askedBy args .table ≡ table
-      → planReply (pick bad (Says Unread) (pick table (TableAt (tablePlace (kindsRead args))) NoTable)) (flagsOf (askedBy args)) files reads ≡ some (saysVerdict v digest)
+  by-setting : (bad table : Bool) → settingRead args .bad ≡ bad → settingRead args .table ≡ table
+      → planReply (pick bad (AtOnce Unread) (pick table (TableAt (tablePlace (kindsRead args))) NoTable)) (flagsOf (settingRead args)) files reads ≡ some (saysVerdict v digest)
       → VerdictGrounds args files reads v digest
   by-setting true table b t e = absurd (false≢true (ap isVerdict e))
   by-setting false true b t e = with-file (fileGiven args files) refl b t e
-  by-setting false false b t e = record { good = b; table = []; whence = unasked t; read = verdict-read (flagsOf (askedBy args)) [] reads p e }
+  by-setting false false b t e = record { good = b; table = []; whence = unasked t; read = verdict-read (flagsOf (settingRead args)) [] reads p e }
 
   -- A verdict is the reply only where no argument is bad and the message was read to its end, with the table that the arguments ask.
   pub reply-verdict : programReply args files reads ≡ some (saysVerdict v digest) → VerdictGrounds args files reads v digest
   unfolding programReply
-  reply-verdict e = by-setting (askedBy args .bad) (askedBy args .table) refl refl e
+  reply-verdict e = by-setting (settingRead args .bad) (settingRead args .table) refl refl e
 
 -- So every verdict that the program's contract allows is said for reads that go to the message's end.
 pub replies-verdict : {v : Verdict} {digest : List ℕ} (r : ProgramReplies (saysVerdict v digest)) → VerdictGrounds (r .arguments) (r .files) (r .replies .reads) v digest

@@ -3,11 +3,11 @@ use mathlib.Core.Path.{_≡_}
 use mathlib.Core.Bool.{true, false}
 use mathlib.Core.List.{List, [], _∷_, _++_, map}
 use Prim.Native.Nat.{ℕ}
-use Rattle.stream.specs.Loan.{tablesOf}
+use Rattle.loan.specs.Loan.{tablesOf}
 use Rattle.refusal.specs.declared.Refusal.the-variants.{Nothing}
 use Rattle.hasher.specs.declared.Hasher.{Hasher}
 use Rattle.claims.specs.Pieces.{Piece, bytesOf, piecewise}
-use Rattle.program.specs.Reads.{Read, bytesRead, gaveNone}
+use Rattle.reads.specs.Reads.{Read, bytesRead, gaveNone}
 
 -- the updates that some reads lead to: each takes the bytes of one, and masks are off, so none is lent
 abbrev pub calls : List Read → List Piece

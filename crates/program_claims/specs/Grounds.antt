@@ -4,7 +4,7 @@ use mathlib.Core.Bool.{true, false}
 use mathlib.Core.List.{List, [], _++_}
 use Prim.Native.Nat.{ℕ, _+_}
 use lib.IntN.{pos}
-use Rattle.stream.specs.Loan.{tablesOf}
+use Rattle.loan.specs.Loan.{tablesOf}
 use Rattle.refusal.specs.Refusal.{isNothing}
 use Rattle.verdict.specs.declared.Verdict.{Verdict}
 use Rattle.flags.specs.declared.Flags.{Flags}
@@ -12,12 +12,12 @@ use Rattle.hasher.specs.Hasher.{freshOf}
 use Rattle.table_file.specs.File.{mostFileBytes, tableOf, fileFault}
 use Rattle.finish.specs.declared.Outcome.the-variants.{Done}
 use Rattle.claims.specs.Pieces.{hashed}
-use Rattle.arguments.specs.Arguments.{settingOf, flagsOf}
+use Rattle.arguments.specs.Arguments.{flagsOf}
 use Rattle.arguments.specs.declared.Setting.{Setting}
 use Rattle.line.specs.declared.Saying.the-variants.{Verdict as SayVerdict}
-use Rattle.program.specs.Reads.{Read, below0}
-use Rattle.program.specs.Files.{File, Contents, holds, contentsOf}
-use Rattle.program.specs.Given.{Argument, kindsRead, tablePlace}
+use Rattle.reads.specs.Reads.{Read, below0}
+use Rattle.reads.specs.Files.{File, Contents, holds, contentsOf}
+use Rattle.plan.specs.Given.{Argument, kindsRead, settingRead, tablePlace}
 use Rattle.program.specs.declared.Reply.{Reply}
 use Rattle.program_claims.specs.Ends.{calls, messageOf, Ends, Passed}
 
@@ -38,20 +38,16 @@ pub data TableOf (s : Setting) (c : Contents) : List ℕ → Type 0 where
   unasked : s .table ≡ false → TableOf s c []
   checked : {file : List ℕ} → s .table ≡ true → c ≡ holds file → isNothing (fileFault file) ≡ true → TableOf s c (tableOf file)
 
--- what the arguments ask
-abbrev pub askedBy : List Argument → Setting
-askedBy args = settingOf (kindsRead args)
-
 -- what the file that they name holds
 abbrev pub fileGiven : List Argument → (ℕ → File) → Contents
 fileGiven args files = contentsOf (mostFileBytes + 1) (files (tablePlace (kindsRead args)))
 
 -- what a verdict in reply to the arguments is said for
 pub record VerdictGrounds (args : List Argument) (files : ℕ → File) (reads : List Read) (v : Verdict) (digest : List ℕ) : Type 0 where
-  pub good : askedBy args .bad ≡ false
+  pub good : settingRead args .bad ≡ false
   pub table : List ℕ
-  pub whence : TableOf (askedBy args) (fileGiven args files) table
-  pub read : ReadToEnd (flagsOf (askedBy args)) table reads v digest
+  pub whence : TableOf (settingRead args) (fileGiven args files) table
+  pub read : ReadToEnd (flagsOf (settingRead args)) table reads v digest
 
 -- the reads of a file to its end, after some bytes: some gave bytes, which are the rest of the file, and the next gave none and did not fail
 pub record Rest (bytes : List ℕ) (reads : List Read) (file : List ℕ) : Type 0 where

@@ -11,12 +11,12 @@ use Rattle.table_file.specs.File.{mostFileBytes}
 use Rattle.arguments.specs.Arguments.{isTable, isRaw, kindOf, count, flagsOf}
 use Rattle.arguments.specs.declared.ArgumentKind.the-variants.{Unknown}
 use Rattle.line.specs.Line.{sayingNumber}
-use Rattle.program.specs.Reads.{Read, below0}
-use Rattle.program.specs.Files.{File}
-use Rattle.program.specs.Given.{Argument, isZero, kindsRead, tablePlace}
+use Rattle.reads.specs.Reads.{Read, below0}
+use Rattle.reads.specs.Files.{File}
+use Rattle.plan.specs.Given.{Argument, isZero, kindsRead, settingRead, tablePlace}
 use Rattle.program.specs.declared.Reply.{Reply}
 use Rattle.program_claims.specs.Ends.{messageOf, Ends, Passed}
-use Rattle.program_claims.specs.Grounds.{TableOf, askedBy, fileGiven}
+use Rattle.program_claims.specs.Grounds.{TableOf, fileGiven}
 
 -- the number that a reply says; 0 for a verdict, and as long as there is no reply
 abbrev pub numberSaid : Option Reply → ℕ
@@ -55,6 +55,6 @@ pub record MessageUnread (f : Flags) (table : List ℕ) (reads : List Read) : Ty
 -- what 16 is said for: bad arguments; a table file that can't be read; or a message that can't be, where nothing is wrong with the table that is asked
 pub data SixteenGrounds (args : List Argument) (files : ℕ → File) (reads : List Read) : Type 0 where
   by-arguments : BadArguments args → SixteenGrounds args files reads
-  by-file : (BadArguments args → ⊥) → askedBy args .table ≡ true → FileUnread (files (tablePlace (kindsRead args))) → SixteenGrounds args files reads
-  by-message : {table : List ℕ} → (BadArguments args → ⊥) → TableOf (askedBy args) (fileGiven args files) table → MessageUnread (flagsOf (askedBy args)) table reads
+  by-file : (BadArguments args → ⊥) → settingRead args .table ≡ true → FileUnread (files (tablePlace (kindsRead args))) → SixteenGrounds args files reads
+  by-message : {table : List ℕ} → (BadArguments args → ⊥) → TableOf (settingRead args) (fileGiven args files) table → MessageUnread (flagsOf (settingRead args)) table reads
       → SixteenGrounds args files reads

@@ -1,12 +1,13 @@
-// The program's calls of the system and the loops around them; what is made of their answers is in the crate `program`. The
-// program `purserumble` is `run` alone, and so are the small programs that run it with other arguments and messages.
+// The program's calls of the system and the loops around them; what is made of their answers is in the crates `plan`, `reads`
+// and `program`. The program `purserumble` is `run` alone, and so are the small programs that run it with other arguments
+// and messages.
 ghost use mathlib.Core.Path.{_≡_};
 ghost use mathlib.Core.Bool.{true};
 ghost use Rattle.refusal.specs.Refusal.{isNothing};
 ghost use Rattle.table_file.specs.File.{tableOf, fileFault};
-ghost use Rattle.program.specs.Reads.{TakesIn};
-ghost use Rattle.program.specs.Files.{Fills, Loads};
-ghost use Rattle.program.specs.Given.{Given, Asks};
+ghost use Rattle.program.specs.Intakes.{TakesIn};
+ghost use Rattle.reads.specs.Files.{Fills, Loads};
+ghost use Rattle.plan.specs.Given.{Given, Asks};
 ghost use Rattle.program.specs.Reply.{replyToMessage, Replies, RepliesWithFile, ProgramReplies};
 use arguments::ArgumentKind;
 use arguments::file_name;
@@ -17,22 +18,22 @@ use libc::PATH_MAX;
 use libc::STDIN_FILENO;
 use libc::STDOUT_FILENO;
 use line::line_of;
-use program::Asked;
+use plan::Asked;
+use plan::Plan;
+use plan::kind_read;
+use plan::plan_of;
 use program::Intake;
-use program::Loaded;
-use program::Plan;
 use program::Reply;
-use program::TableCheck;
-use program::file_end;
-use program::file_room;
 use program::intake_reply;
 use program::intake_with;
-use program::is_unopened;
-use program::kind_read;
 use program::no_intake;
-use program::plan_of;
-use program::table_check;
 use program::without_digest;
+use reads::Loaded;
+use reads::TableCheck;
+use reads::file_end;
+use reads::file_room;
+use reads::is_unopened;
+use reads::table_check;
 use table_file::file_words;
 
 // Bytes in `table=`.
@@ -133,7 +134,7 @@ fn reply_with_file(flags: Flags, i: usize) -> Reply
     let got = load(i, &mut room);
     match table_check(got, &room) {
         TableCheck::Sound(n) => reply_with_table(flags, &room[..n]),
-        TableCheck::Says(s) => without_digest(s),
+        TableCheck::Unusable(s) => without_digest(s),
     }
 }
 
@@ -145,7 +146,7 @@ pub fn program_reply() -> Reply
     let setting = a.setting;
     let flags = flags_of(setting);
     match plan_of(a) {
-        Plan::Says(s) => without_digest(s),
+        Plan::AtOnce(s) => without_digest(s),
         Plan::TableAt(i) => reply_with_file(flags, i),
         Plan::NoTable => {
             let none = [0u32; 1];

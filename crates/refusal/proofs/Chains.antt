@@ -12,47 +12,47 @@ use Rattle.refusal.specs.declared.Refusal.{Refusal}
 use Rattle.refusal.specs.declared.Refusal.the-variants.{Nothing, HasherForm, TableLength, MaskNumber, TestStep, DmRule, MaskCount, MessageLength, Size, SheetLength}
 
 -- a test is true exactly when P holds, and false exactly when Q does
-pub record Says (b : Bool) (P Q : Type 0) : Type 0 where
+pub record Decides (b : Bool) (P Q : Type 0) : Type 0 where
   pub on : (b ≡ true) ↔ P
   pub off : (b ≡ false) ↔ Q
 
-pub decided : (b : Bool) (P : Type 0) → (b ≡ true) ↔ P → Says b P (P → ⊥)
+pub decided : (b : Bool) (P : Type 0) → (b ≡ true) ↔ P → Decides b P (P → ⊥)
 decided true P d = record { on = d; off = (λ e. absurd (true≢false e), λ n. absurd (n (d .0 refl))) }
 decided false P d = record { on = d; off = (λ e p. false≢true (d .1 p), λ n. refl) }
 
-pub itself : (b : Bool) → Says b (b ≡ true) (b ≡ false)
+pub itself : (b : Bool) → Decides b (b ≡ true) (b ≡ false)
 itself b = record { on = Iff·rfl; off = Iff·rfl }
 
-pub negated : {b : Bool} {P Q : Type 0} → Says b P Q → Says (not b) Q P
+pub negated : {b : Bool} {P Q : Type 0} → Decides b P Q → Decides (not b) Q P
 negated {b = true} d = record { on = (λ e. absurd (false≢true e), λ q. absurd (true≢false (d .off .1 q))); off = (λ e. d .on .0 refl, λ p. refl) }
 negated {b = false} d = record { on = (λ e. d .off .0 refl, λ q. refl); off = (λ e. absurd (true≢false e), λ p. absurd (false≢true (d .on .1 p))) }
 
-pub less : (a b : ℕ) → Says (ltb a b) (a < b) (b ≤ a)
+pub less : (a b : ℕ) → Decides (ltb a b) (a < b) (b ≤ a)
 less a b = record { on = (ltb-true a b, lt-ltb a b); off = (ltb-false a b, le-ltb a b) }
 
-pub equal : (a b : ℕ) → Says (eqb a b) (a ≡ b) (a ≡ b → ⊥)
+pub equal : (a b : ℕ) → Decides (eqb a b) (a ≡ b) (a ≡ b → ⊥)
 equal a b = record { on = (eqb-true a b, eq-eqb a b); off = (eqb-false a b, ne-eqb a b) }
 
 -- a refusal whose number comes no later in the chain is given exactly when its test is true
-pub first-exactly : {b : Bool} {P Q : Type 0} → Says b P Q → (r s : Refusal) (n : ℕ) → numberOf r ≡ n → (numberOf s ≡ n → ⊥)
+pub first-exactly : {b : Bool} {P Q : Type 0} → Decides b P Q → (r s : Refusal) (n : ℕ) → numberOf r ≡ n → (numberOf s ≡ n → ⊥)
     → (numberOf (pick b r s) ≡ n) ↔ P
 first-exactly {b = true} d r s n p q = (λ e. d .on .0 refl, λ x. p)
 first-exactly {b = false} d r s n p q = (λ e. absurd (q e), λ x. absurd (false≢true (d .on .1 x)))
 
 -- any other number is given exactly when that test is false and the rest of the chain gives it
-pub later-exactly : {b : Bool} {P Q : Type 0} → Says b P Q → (r s : Refusal) (n : ℕ) (R : Type 0) → (numberOf r ≡ n → ⊥)
+pub later-exactly : {b : Bool} {P Q : Type 0} → Decides b P Q → (r s : Refusal) (n : ℕ) (R : Type 0) → (numberOf r ≡ n → ⊥)
     → (numberOf s ≡ n) ↔ R → (numberOf (pick b r s) ≡ n) ↔ (Q × R)
 later-exactly {b = true} d r s n R p q = (λ e. absurd (p e), λ x. absurd (true≢false (d .off .1 (x .0))))
 later-exactly {b = false} d r s n R p q = (λ e. (d .off .0 refl, q .0 e), λ x. q .1 (x .1))
 
 -- what is looked at only where a test is true gives its numbers only there
-pub inside-exactly : {b : Bool} {P Q : Type 0} → Says b P Q → (r s : Refusal) (n : ℕ) → (numberOf s ≡ n → ⊥)
+pub inside-exactly : {b : Bool} {P Q : Type 0} → Decides b P Q → (r s : Refusal) (n : ℕ) → (numberOf s ≡ n → ⊥)
     → (numberOf (pick b r s) ≡ n) ↔ (P × (numberOf r ≡ n))
 inside-exactly {b = true} d r s n p = (λ e. (d .on .0 refl, e), λ x. x .1)
 inside-exactly {b = false} d r s n p = (λ e. absurd (p e), λ x. absurd (false≢true (d .on .1 (x .0))))
 
 -- a refusal at the end of the chain is given exactly when the test before it is false
-pub last-exactly : {b : Bool} {P Q : Type 0} → Says b P Q → (r s : Refusal) (n : ℕ) → (numberOf r ≡ n → ⊥) → numberOf s ≡ n
+pub last-exactly : {b : Bool} {P Q : Type 0} → Decides b P Q → (r s : Refusal) (n : ℕ) → (numberOf r ≡ n → ⊥) → numberOf s ≡ n
     → (numberOf (pick b r s) ≡ n) ↔ Q
 last-exactly {b = true} d r s n p q = (λ e. absurd (p e), λ x. absurd (true≢false (d .off .1 x)))
 last-exactly {b = false} d r s n p q = (λ e. d .off .0 refl, λ x. q)
@@ -63,11 +63,11 @@ never true r s n p q = p
 never false r s n p q = q
 
 -- a test that is passed leaves the rest of the chain, number and place
-pub later-is : {b : Bool} {P Q : Type 0} → Says b P Q → (r s : Refusal) → Q → pick b r s ≡ s
+pub later-is : {b : Bool} {P Q : Type 0} → Decides b P Q → (r s : Refusal) → Q → pick b r s ≡ s
 later-is {b = true} d r s q = absurd (true≢false (d .off .1 q))
 later-is {b = false} d r s q = refl
 
-pub inside-is : {b : Bool} {P Q : Type 0} → Says b P Q → (r s : Refusal) → P → pick b r s ≡ r
+pub inside-is : {b : Bool} {P Q : Type 0} → Decides b P Q → (r s : Refusal) → P → pick b r s ≡ r
 inside-is {b = true} d r s p = refl
 inside-is {b = false} d r s p = absurd (false≢true (d .on .1 p))
 

@@ -10,7 +10,7 @@ use Rattle.word.specs.Choice.{pick}
 use Rattle.word.proofs.Tests.{both-true, one-true, of-either}
 use Rattle.refusal.specs.Refusal.{numberOf, oneOf}
 use Rattle.refusal.specs.declared.Refusal.{Refusal}
-use Rattle.refusal.proofs.Chains.{Says, first-exactly, later-exactly, later-is}
+use Rattle.refusal.proofs.Chains.{Decides, first-exactly, later-exactly, later-is}
 
 -- each number of the second list is in the first
 abbrev pub allOf : List ℕ → List ℕ → Bool
@@ -44,7 +44,7 @@ pub record InFront (r own s : Refusal) (P Q : Type 0) (ns : List ℕ) : Type 1 w
   pub among : Among (numberOf own ∷ ns) r
 
 -- so it is of a test with a refusal of its own in front of s, whose number that is not
-pub in-front : {b : Bool} {P Q : Type 0} → Says b P Q → (r own s : Refusal) (ns : List ℕ) → r ≡ pick b own s → Among ns s → oneOf ns (numberOf own) ≡ false
+pub in-front : {b : Bool} {P Q : Type 0} → Decides b P Q → (r own s : Refusal) (ns : List ℕ) → r ≡ pick b own s → Among ns s → oneOf ns (numberOf own) ≡ false
     → InFront r own s P Q ns
 in-front {b = b} {P = P} {Q = Q} says r own s ns e a o =
     record {

@@ -1,10 +1,12 @@
 // One call of an entry point, and a line of what came of it: the answer, and whether what was given came back as it was.
-use crate::given::hasher_of;
+ghost use mathlib.Core.Path.{_≡_};
+ghost use Rattle.refusal_run.specs.Given.{givenMessage};
+use crate::given::given_hasher;
 use crate::same::same_hasher;
 use cases::field;
+use cases::from_field;
 use cases::front_bytes;
 use cases::number_at;
-use cases::rest_of;
 use finish::Outcome;
 use finish::finish;
 use finish::finish_and_reset;
@@ -24,12 +26,14 @@ use refusal::is_nothing;
 use update::update;
 
 fn head(line: &[u8]) {
-    say(rest_of(line, 14));
+    say(from_field(line, 14));
     say(b": ");
 }
 
 // The first bytes of field 12.
-fn message(line: &[u8]) -> &[u8] {
+fn given_message(line: &[u8]) -> &[u8]
+    ensures { λ r. ⌜ now r ≡ givenMessage (now (line .entry)) ⌝ }
+{
     front_bytes(field(line, 12), number_at(line, 13))
 }
 
@@ -61,22 +65,22 @@ fn said(line: &[u8], given: Hasher, u: Updated) {
 }
 
 pub(crate) fn by_update(line: &[u8], table: &[u32], masks: &[u32]) {
-    let h = hasher_of(line);
-    said(line, h, update(h, message(line), table, masks));
+    let h = given_hasher(line);
+    said(line, h, update(h, given_message(line), table, masks));
 }
 
 pub(crate) fn in_place(line: &[u8], table: &[u32], masks: &[u32]) {
-    let h = hasher_of(line);
-    said(line, h, through(h, message(line), table, masks));
+    let h = given_hasher(line);
+    said(line, h, through(h, given_message(line), table, masks));
 }
 
 pub(crate) fn by_reset(line: &[u8]) {
-    let h = hasher_of(line);
+    let h = given_hasher(line);
     said(line, h, reset(h));
 }
 
 pub(crate) fn by_finish(line: &[u8], table: &[u32], masks: &[u32]) {
-    let h = hasher_of(line);
+    let h = given_hasher(line);
     let f = finish(h, table, masks);
     let o = f.outcome;
     let digest = f.digest;
@@ -94,7 +98,7 @@ fn say_out(o: Outcome, out: &[u8; 24]) {
 
 // The output is lent as the front of 24 bytes; field 13 has its size.
 pub(crate) fn by_finish_reset(line: &[u8], table: &[u32], masks: &[u32]) {
-    let h = hasher_of(line);
+    let h = given_hasher(line);
     let mut out = [0xA5u8; 24];
     let size = number_at(line, 13);
     if 24 < size {
@@ -109,7 +113,7 @@ pub(crate) fn by_finish_reset(line: &[u8], table: &[u32], masks: &[u32]) {
 }
 
 pub(crate) fn at_once(line: &[u8], table: &[u32], masks: &[u32]) {
-    let d = one_shot(message(line), table, masks);
+    let d = one_shot(given_message(line), table, masks);
     let o = d.outcome;
     let digest = d.digest;
     head(line);

@@ -10,6 +10,7 @@ use call::by_finish_reset;
 use call::by_reset;
 use call::by_update;
 use call::in_place;
+use cases::from_field;
 use cases::front;
 use cases::line_at;
 use cases::next_line;
@@ -17,17 +18,16 @@ use cases::number_at;
 use cases::page;
 use cases::read;
 use cases::records_of;
-use cases::rest_of;
 use cases::say_title;
-use given::hasher_of;
+use given::given_hasher;
 use printing::say;
 use printing::say_hasher;
 
 // The hasher that calls are given.
 fn say_given(line: &[u8]) {
-    say(rest_of(line, 14));
+    say(from_field(line, 14));
     say(b": hasher ");
-    say_hasher(hasher_of(line));
+    say_hasher(given_hasher(line));
     say(b"\n");
 }
 

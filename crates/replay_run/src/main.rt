@@ -1,9 +1,6 @@
 // Replays a list of the Rust's answers, and writes how many of them are the proved code's too. The file stdout has what it
 // must write.
 mod counts;
-mod fields;
-mod hex;
-mod kind;
 mod one;
 mod replay;
 mod session;

@@ -1,29 +1,26 @@
 // The line of one block.
-use crate::fields::bytes_front;
-use crate::fields::first_at;
-use crate::fields::five_at;
-use crate::fields::is_five;
-use crate::fields::is_mark;
-use crate::fields::is_refusal;
-use crate::fields::run_at;
-use crate::fields::small_at;
-use crate::fields::word_count;
-use crate::kind::is_refused;
-use detect::Mode;
+ghost use mathlib.Core.Path.{_≡_};
+ghost use Rattle.replay_run.specs.Agreed.{blockAgrees};
+ghost use Rattle.replay_run.specs.Turns.{blockGiven, blockLine};
+use cases::mode_of_bits;
 use detect::OneBlock;
 use detect::one_block;
 use refusal::is_nothing;
-
-// Of the flags' bits a block is told two.
-fn mode_of(bits: usize) -> Mode {
-    Mode {
-        mitigate: bits / 2 % 2 == 1,
-        reduced: bits / 8 % 2 == 1,
-    }
-}
+use replay_line::bytes_front;
+use replay_line::first_at;
+use replay_line::five_at;
+use replay_line::is_five;
+use replay_line::is_mark;
+use replay_line::is_refusal;
+use replay_line::is_refused;
+use replay_line::run_at;
+use replay_line::small_at;
+use replay_line::word_count;
 
 // Whether a block's answer is the line's.
-fn answered(b: OneBlock, line: &[u8]) -> bool {
+fn answered(b: OneBlock, line: &[u8]) -> bool
+    ensures { λ r. ⌜ r ≡ blockAgrees b (now (line .entry)) ⌝ }
+{
     let refusal = b.refusal;
     let words = b.words;
     let found = b.found;
@@ -46,7 +43,9 @@ fn answered(b: OneBlock, line: &[u8]) -> bool {
 }
 
 // Whether what a block is given can be read.
-fn is_given(line: &[u8]) -> bool {
+fn is_given(line: &[u8]) -> bool
+    ensures { λ r. ⌜ r ≡ blockGiven (now (line .entry)) ⌝ }
+{
     if word_count(line, 1) != 5 {
         return false;
     }
@@ -57,7 +56,9 @@ fn is_given(line: &[u8]) -> bool {
 }
 
 // A block from five words, under the table, with a mask and flags.
-pub(crate) fn block(line: &[u8], table: &[u32]) -> bool {
+pub(crate) fn block_line(line: &[u8], table: &[u32]) -> bool
+    ensures { λ r. ⌜ r ≡ blockLine (now (line .entry)) (now (table .entry)) ⌝ }
+{
     if !is_given(line) {
         return false;
     }
@@ -71,7 +72,7 @@ pub(crate) fn block(line: &[u8], table: &[u32]) -> bool {
         bytes_front(&bytes, message.len),
         table,
         first_at(line, 3),
-        mode_of(small_at(line, 4)),
+        mode_of_bits(small_at(line, 4)),
     );
     answered(b, line)
 }

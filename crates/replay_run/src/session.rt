@@ -1,17 +1,11 @@
 // The lines of a hasher, one after the other. Each gives whether its answer is the line's, and the hasher for the next.
+ghost use mathlib.Core.Path.{_≡_};
+ghost use mathlib.Core.Bool.{false, _&&_};
 ghost use Prim.Native.Nat.{_<_};
-use crate::fields::bytes_front;
-use crate::fields::is_bytes;
-use crate::fields::is_five;
-use crate::fields::is_mark;
-use crate::fields::is_pending;
-use crate::fields::is_refusal;
-use crate::fields::run_at;
-use crate::fields::small_at;
-use crate::fields::words_at;
-use crate::fields::words_front;
-use crate::kind::is_refused;
-use cases::flags_of;
+ghost use Rattle.replay_line.specs.Fields.{smallAt};
+ghost use Rattle.replay_run.specs.Agreed.{verdictDigit, updateAgrees, doneAgrees, refusedAgrees, outcomeAgrees};
+ghost use Rattle.replay_run.specs.Turns.{tookOf, freshFrom, wasReset};
+use cases::flags_of_bits;
 use finish::Outcome;
 use finish::finish;
 use finish::finish_and_reset;
@@ -22,6 +16,17 @@ use in_place::through;
 use one_shot::one_shot;
 use refusal::Refusal;
 use refusal::is_nothing;
+use replay_line::bytes_front;
+use replay_line::hex_words;
+use replay_line::is_bytes;
+use replay_line::is_five;
+use replay_line::is_mark;
+use replay_line::is_pending;
+use replay_line::is_refusal;
+use replay_line::is_refused;
+use replay_line::run_at;
+use replay_line::small_at;
+use replay_line::words_front;
 use update::update;
 use verdict::Verdict;
 
@@ -31,7 +36,9 @@ pub struct Took {
 }
 
 // A line that can't be read leaves the hasher.
-pub(crate) fn unread(h: Hasher) -> Took {
+pub(crate) fn unread(h: Hasher) -> Took
+    ensures { λ r. ⌜ r ≡ tookOf false h ⌝ }
+{
     Took {
         right: false,
         hasher: h,
@@ -39,19 +46,23 @@ pub(crate) fn unread(h: Hasher) -> Took {
 }
 
 // A fresh hasher.
-pub(crate) fn fresh(h: Hasher, line: &[u8]) -> Took {
+pub(crate) fn fresh(h: Hasher, line: &[u8]) -> Took
+    ensures { λ r. ⌜ r ≡ freshFrom h (smallAt (now (line .entry)) 1) ⌝ }
+{
     let bits = small_at(line, 1);
     if 15 < bits {
         return unread(h);
     }
     Took {
         right: true,
-        hasher: Hasher::new(flags_of(bits)),
+        hasher: Hasher::new(flags_of_bits(bits)),
     }
 }
 
 // Whether the hasher after an update is the line's. The zeros behind the pending bytes are seen by the next call.
-fn stands(u: Updated, line: &[u8]) -> bool {
+fn stands(u: Updated, line: &[u8]) -> bool
+    ensures { λ r. ⌜ r ≡ updateAgrees u (now (line .entry)) ⌝ }
+{
     let refusal = u.refusal;
     let h = u.hasher;
     let words = h.words;
@@ -74,18 +85,20 @@ fn stands(u: Updated, line: &[u8]) -> bool {
     is_mark(line, 6, h.mark)
 }
 
-// Whether an update by value and one in place are both the line's.
-fn both_stand(by_value: Updated, in_place: Updated, line: &[u8]) -> bool {
-    if !stands(by_value, line) {
+// Whether an update by value, u, and one in place, v, are both the line's.
+fn both_stand(u: Updated, v: Updated, line: &[u8]) -> bool
+    ensures { λ r. ⌜ r ≡ (updateAgrees u (now (line .entry)) && updateAgrees v (now (line .entry))) ⌝ }
+{
+    if !stands(u, line) {
         return false;
     }
-    stands(in_place, line)
+    stands(v, line)
 }
 
 // Both forms of an update. The one in place gives the next line its hasher.
-pub(crate) fn updated(h: Hasher, line: &[u8], table: &[u32]) -> Took {
+pub(crate) fn update_line(h: Hasher, line: &[u8], table: &[u32]) -> Took {
     let piece = run_at(line, 1);
-    let lent = words_at(line, 2);
+    let lent = hex_words(line, 2);
     if !piece.good {
         return unread(h);
     }
@@ -105,8 +118,10 @@ pub(crate) fn updated(h: Hasher, line: &[u8], table: &[u32]) -> Took {
     }
 }
 
-// The list's number for a verdict.
-fn verdict_number(v: Verdict) -> usize {
+// The list's digit for a verdict.
+fn verdict_digit(v: Verdict) -> usize
+    ensures { λ r. ⌜ r ≡ verdictDigit v ⌝ }
+{
     match v {
         Verdict::Ok => 0,
         Verdict::Mitigated => 1,
@@ -117,19 +132,21 @@ fn verdict_number(v: Verdict) -> usize {
 // Whether a verdict and a digest are fields i and i + 1.
 fn is_done(line: &[u8], i: usize, v: Verdict, digest: &[u8; 20]) -> bool
     requires { ⌜ i < 16 ⌝ }
+    ensures { λ r. ⌜ r ≡ doneAgrees v (now (digest .entry)) (now (line .entry)) i ⌝ }
 {
     if is_refused(line) {
         return false;
     }
-    if small_at(line, i) != verdict_number(v) {
+    if small_at(line, i) != verdict_digit(v) {
         return false;
     }
     is_bytes(line, i + 1, digest)
 }
 
 // Whether an outcome and a digest are the line's, whose answer starts at field i.
-fn said(o: Outcome, digest: &[u8; 20], line: &[u8], i: usize) -> bool
+fn is_said(o: Outcome, digest: &[u8; 20], line: &[u8], i: usize) -> bool
     requires { ⌜ i < 16 ⌝ }
+    ensures { λ r. ⌜ r ≡ outcomeAgrees o (now (digest .entry)) (now (line .entry)) i ⌝ }
 {
     match o {
         Outcome::Done(v) => is_done(line, i, v, digest),
@@ -140,6 +157,7 @@ fn said(o: Outcome, digest: &[u8; 20], line: &[u8], i: usize) -> bool
 // Whether the line has this refusal in fields i and i + 1.
 fn is_refused_so(line: &[u8], i: usize, r: Refusal) -> bool
     requires { ⌜ i < 16 ⌝ }
+    ensures { λ q. ⌜ q ≡ refusedAgrees r (now (line .entry)) i ⌝ }
 {
     if is_refused(line) {
         return is_refusal(line, i, r);
@@ -147,8 +165,9 @@ fn is_refused_so(line: &[u8], i: usize, r: Refusal) -> bool
     false
 }
 
-pub(crate) fn finished(h: Hasher, line: &[u8], table: &[u32]) -> Took {
-    let lent = words_at(line, 1);
+// A finish.
+pub(crate) fn finish_line(h: Hasher, line: &[u8], table: &[u32]) -> Took {
+    let lent = hex_words(line, 1);
     if !lent.good {
         return unread(h);
     }
@@ -158,13 +177,14 @@ pub(crate) fn finished(h: Hasher, line: &[u8], table: &[u32]) -> Took {
     let digest = f.digest;
     let hasher = f.hasher;
     Took {
-        right: said(outcome, &digest, line, 2),
+        right: is_said(outcome, &digest, line, 2),
         hasher,
     }
 }
 
-pub(crate) fn finish_reset(h: Hasher, line: &[u8], table: &[u32]) -> Took {
-    let lent = words_at(line, 1);
+// A finish-and-reset.
+pub(crate) fn finish_reset_line(h: Hasher, line: &[u8], table: &[u32]) -> Took {
+    let lent = hex_words(line, 1);
     let mut out = [0u8; 20];
     if !lent.good {
         return unread(h);
@@ -174,15 +194,15 @@ pub(crate) fn finish_reset(h: Hasher, line: &[u8], table: &[u32]) -> Took {
     let outcome = c.outcome;
     let hasher = c.hasher;
     Took {
-        right: said(outcome, &out, line, 2),
+        right: is_said(outcome, &out, line, 2),
         hasher,
     }
 }
 
 // A whole message at once: the hasher has no part in it.
-pub(crate) fn at_once(h: Hasher, line: &[u8], table: &[u32]) -> Took {
+pub(crate) fn one_shot_line(h: Hasher, line: &[u8], table: &[u32]) -> Took {
     let message = run_at(line, 1);
-    let lent = words_at(line, 2);
+    let lent = hex_words(line, 2);
     if !message.good {
         return unread(h);
     }
@@ -199,12 +219,15 @@ pub(crate) fn at_once(h: Hasher, line: &[u8], table: &[u32]) -> Took {
     let outcome = d.outcome;
     let digest = d.digest;
     Took {
-        right: said(outcome, &digest, line, 3),
+        right: is_said(outcome, &digest, line, 3),
         hasher: h,
     }
 }
 
-pub(crate) fn was_reset(h: Hasher) -> Took {
+// A reset.
+pub(crate) fn was_reset(h: Hasher) -> Took
+    ensures { λ r. ⌜ r ≡ wasReset h ⌝ }
+{
     let u = reset(h);
     let refusal = u.refusal;
     let hasher = u.hasher;

@@ -17,8 +17,8 @@ use Rattle.sheet.specs.Sheet.{barcodeSize, recordSize, digestAt, records
 use Rattle.sheet.specs.Sheet.{lookupRefusal, partFrom, partOf, placeIn}
 
 -- a record's digest has no byte missing
-pub digest-length : (s : List ℕ) (k : ℕ) → k < recordsOn s → length (digestAt s k) ≡ digestSize
-digest-length s k l =
+pub digest-at-length : (s : List ℕ) (k : ℕ) → k < recordsOn s → length (digestAt s k) ≡ digestSize
+digest-at-length s k l =
     let from = recordSize * k + barcodeSize in
     length-take-le digestSize (drop from s) (rw (length-drop from s) (omega arith))
 

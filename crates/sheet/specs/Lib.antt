@@ -1,3 +1,2 @@
 pub mod Sheet
 pub mod Exactly
-pub mod Compare

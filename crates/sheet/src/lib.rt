@@ -1,47 +1,17 @@
-// The barcode sheet: looking a digest up by its barcode, and comparing one with it. A record is 32 bytes, a barcode
-// and then a digest, and a sheet has no header.
+// The barcode sheet: looking a digest up by its barcode. A record is 32 bytes, a barcode and then a digest, and a sheet
+// has no header.
 ghost use mathlib.Core.Path.{_≡_};
 ghost use denote.Ref.{ptr};
 ghost use Rattle.sheet.specs.Sheet.{recordFor, lookupRefusal, partFrom, partOf, placeIn};
-ghost use Rattle.sheet.specs.Compare.{comparisonBytes, comparisonOf, comparedOf};
 use octets::same_bytes;
 use refusal::Refusal;
 use refusal::is_nothing;
-use verdict::Verdict;
+use verdict::DIGEST_SIZE;
 
-// Bytes in a barcode, in a digest, and in a record.
+// Bytes in a barcode, and in a record.
 pub const BARCODE_SIZE: usize = 12;
 
-pub const DIGEST_SIZE: usize = 20;
-
 pub const RECORD_SIZE: usize = BARCODE_SIZE + DIGEST_SIZE;
-
-// What a comparison answers.
-pub enum Comparison {
-    // The digest is the one on the sheet.
-    Match,
-    // The sheet has another digest for the barcode.
-    Differs,
-    // No record has the barcode.
-    Absent,
-}
-
-// An answer, or why there is none.
-pub enum Compared {
-    Said(Comparison),
-    Refused(Refusal),
-}
-
-// The word for an answer, with zeros behind it.
-pub fn comparison_word(answer: Comparison) -> [u8; 7]
-    ensures { λ r. ⌜ r ≡ comparisonBytes answer ⌝ }
-{
-    match answer {
-        Comparison::Match => *b"match\0\0",
-        Comparison::Differs => *b"differs",
-        Comparison::Absent => *b"absent\0",
-    }
-}
 
 // The place of the first record with the barcode, or the number of records where none has it.
 fn first_with(sheet: &[u8], code: &[u8]) -> usize
@@ -100,28 +70,4 @@ pub fn lookup<'a>(sheet: &'a [u8], code: &[u8]) -> &'a [u8]
         return &sheet[from..to];
     }
     &sheet[n..]
-}
-
-// What the part that a lookup found says of a digest, whatever the verdict: the empty part has no record behind it.
-fn compare_part(part: &[u8], verdict: Verdict, digest: [u8; DIGEST_SIZE]) -> Comparison
-    ensures { λ r. ⌜ r ≡ comparisonOf (now (part .entry)) verdict digest ⌝ }
-{
-    if part.len() == 0 {
-        return Comparison::Absent;
-    }
-    if !same_bytes(part, &digest) {
-        return Comparison::Differs;
-    }
-    Comparison::Match
-}
-
-// Compares a digest with the one that the sheet has for the barcode.
-pub fn compare(sheet: &[u8], code: &[u8], verdict: Verdict, digest: [u8; DIGEST_SIZE]) -> Compared
-    ensures { λ r. ⌜ r ≡ comparedOf (now (sheet .entry)) (now (code .entry)) verdict digest ⌝ }
-{
-    let refusal = lookup_refusal(sheet, code);
-    if !is_nothing(refusal) {
-        return Compared::Refused(refusal);
-    }
-    Compared::Said(compare_part(lookup(sheet, code), verdict, digest))
 }

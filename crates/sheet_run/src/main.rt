@@ -1,22 +1,22 @@
 // Runs the barcode sheet on three records, of which the first and the last have the same barcode, and writes a line for
 // each call. The file data/cases.txt has the calls, the file stdout what the lines must be.
 use cases::field;
+use cases::from_field;
 use cases::front_bytes;
 use cases::line_at;
 use cases::next_line;
 use cases::number_at;
 use cases::page;
 use cases::read;
-use cases::rest_of;
+use comparison::Compared;
+use comparison::Comparison;
+use comparison::compare;
+use comparison::comparison_word;
 use octets::store;
 use printing::say;
 use printing::say_decimal;
 use refusal::Refusal;
 use refusal::number;
-use sheet::Compared;
-use sheet::Comparison;
-use sheet::compare;
-use sheet::comparison_word;
 use sheet::lookup;
 use sheet::lookup_refusal;
 use verdict::Verdict;
@@ -56,7 +56,7 @@ fn sheet_of(line: &[u8]) -> &[u8] {
 fn look(line: &[u8]) {
     let records = sheet_of(line);
     let code = field(line, 1);
-    say(rest_of(line, 4));
+    say(from_field(line, 4));
     say(b": ");
     say_decimal(number(lookup_refusal(records, code)) as u64);
     say(b" [");
@@ -92,7 +92,7 @@ fn compared(line: &[u8]) -> Compared {
 
 // The answer of a comparison.
 fn hold(line: &[u8]) {
-    say(rest_of(line, 6));
+    say(from_field(line, 6));
     say(b": ");
     match compared(line) {
         Compared::Said(answer) => say_comparison(answer),

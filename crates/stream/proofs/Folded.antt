@@ -11,7 +11,7 @@ use Rattle.word.proofs.Tests.{of-either}
 use Rattle.detect.specs.declared.Mode.{Mode}
 use Rattle.flags.specs.Flags.{usesMasks}
 use Rattle.flags.specs.declared.Flags.{Flags}
-use Rattle.stream.specs.Loan.{Loan, lookedAt, later}
+use Rattle.loan.specs.Loan.{Loan, lookedAt, later}
 use Rattle.stream.specs.Fold.{allBits, modeOf, checkedOf, plainOf, blockOf, chained, folded}
 use Rattle.stream.specs.declared.Chain.{Chain}
 use Rattle.stream.proofs.Plain.{chained-plain}

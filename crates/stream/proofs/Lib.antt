@@ -1,4 +1,3 @@
 pub mod Folds
 pub mod Folded
 pub mod Plain
-pub mod Loans

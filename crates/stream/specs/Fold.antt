@@ -11,7 +11,7 @@ use Rattle.detect.specs.declared.Answer.{Answer}
 use Rattle.detect.specs.declared.Mode.{Mode}
 use Rattle.fips.specs.Fips.{initial}
 use Rattle.flags.specs.declared.Flags.{Flags}
-use Rattle.stream.specs.Loan.{Tables, Loan, lookedAt}
+use Rattle.loan.specs.Loan.{Tables, Loan, lookedAt}
 use Rattle.stream.specs.declared.Chain.{Chain}
 
 -- the mask of a block for which none is lent: every bit

@@ -5,7 +5,7 @@ use mathlib.Core.List.{List}
 use Prim.Native.Nat.{ℕ, _+_, _-_, _/_, _%_, _≤_}
 use native.Mathlib.Omega.{arith}
 use lib.ListN.{length, replicate, length-append, length-replicate}
-use Rattle.stream.specs.Loan.{Loan}
+use Rattle.loan.specs.Loan.{Loan}
 use Rattle.stream.proofs.Folded.{folded-mark, folded-blocks}
 use Rattle.hasher.specs.Hasher.{wellFormed, taken, chainOf}
 use Rattle.hasher.specs.declared.Hasher.{Hasher}

@@ -9,7 +9,7 @@ use lib.ListN.{length}
 use Rattle.refusal.specs.declared.Refusal.the-variants.{Nothing, HasherForm, MessageLength}
 use Rattle.refusal.proofs.Passed.{passed}
 use Rattle.fips.specs.Fips.{mostBytes}
-use Rattle.stream.specs.Loan.{Loan, loanRefusal}
+use Rattle.loan.specs.Loan.{Loan, loanRefusal}
 use Rattle.hasher.specs.Hasher.{wellFormed, taken}
 use Rattle.hasher.specs.declared.Hasher.{Hasher}
 use Rattle.absorb.specs.Absorb.{absorbed}

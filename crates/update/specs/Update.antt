@@ -9,7 +9,7 @@ use Rattle.refusal.specs.Refusal.{isNothing}
 use Rattle.refusal.specs.declared.Refusal.{Refusal}
 use Rattle.refusal.specs.declared.Refusal.the-variants.{HasherForm, MessageLength}
 use Rattle.fips.specs.Fips.{mostBytes}
-use Rattle.stream.specs.Loan.{Loan, loanRefusal}
+use Rattle.loan.specs.Loan.{Loan, loanRefusal}
 use Rattle.hasher.specs.Hasher.{wellFormed, taken}
 use Rattle.hasher.specs.declared.Hasher.{Hasher}
 use Rattle.hasher.specs.declared.Updated.{Updated}

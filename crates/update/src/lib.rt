@@ -1,14 +1,14 @@
 // An update: what it refuses of a piece of the message, and the piece taken.
 ghost use mathlib.Core.Path.{_≡_};
-ghost use Rattle.stream.specs.Loan.{loanOf};
+ghost use Rattle.loan.specs.Loan.{loanOf};
 ghost use Rattle.update.specs.Update.{updateRefusal, updated};
 use absorb::absorb;
 use hasher::Hasher;
 use hasher::Updated;
 use hasher::well_formed;
+use loan::loan_refusal;
 use refusal::Refusal;
 use refusal::is_nothing;
-use stream::loan_refusal;
 
 // The longest message, in bytes.
 pub const MOST_BYTES: u64 = 0x1FFFFFFFFFFFFFFF;

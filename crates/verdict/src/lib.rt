@@ -2,6 +2,9 @@
 ghost use mathlib.Core.Path.{_≡_};
 ghost use Rattle.verdict.specs.Verdict.{verdictOf};
 
+// Bytes in a digest, which stands beside a verdict.
+pub const DIGEST_SIZE: usize = 20;
+
 pub enum Verdict {
     // No block was marked.
     Ok,

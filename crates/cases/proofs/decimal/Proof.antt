@@ -2,14 +2,14 @@
 use mathlib.Core.Path.{_≡_, refl, _∙_, sym}
 use Prim.Native.Nat.{_-_, _≤_}
 use lib.ListN.{length, drop}
-use Rattle.cases.specs.Numbers.{decimalFrom, decimalOf}
+use Rattle.cases.specs.Numbers.{decimalFrom, decimalValue}
 use Rattle.cases.proofs.Scan.{decimal-step, decimal-end}
 use borrow.Author.Needs.{needs}
 use Rattle.cases.proofs.decimal.Statement.{statement}
 use Rattle.cases.proofs.decimal.Tie as tie
 
 abbrev Inv-loop : tie.InvT-loop
-Inv-loop digits n₀ i₀ i-end n i = (i ≤ i-end) × (i-end ≡ length digits) × (decimalFrom n (drop i digits) ≡ decimalOf digits)
+Inv-loop digits n₀ i₀ i-end n i = (i ≤ i-end) × (i-end ≡ length digits) × (decimalFrom n (drop i digits) ≡ decimalValue digits)
 
 abbrev μ-loop : tie.MeasureT-loop
 μ-loop digits n₀ i₀ i-end n i = i-end - i

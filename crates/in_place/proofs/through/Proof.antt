@@ -45,7 +45,7 @@ use denote.Exit.{yes}
 use Rattle.hasher.specs.declared.Hasher.{Hasher}
 use Rattle.hasher.specs.declared.Updated.{Updated}
 use Rattle.refusal.specs.declared.Refusal.{Refusal}
-use Rattle.stream.specs.Loan.{loanOf}
+use Rattle.loan.specs.Loan.{loanOf}
 use Rattle.in_place.specs.InPlace.{InPlace}
 use Rattle.hasher.proofs.Hasher as T
 use Rattle.hasher.proofs.Hasher.Laws as T′

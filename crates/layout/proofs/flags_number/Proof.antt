@@ -3,7 +3,7 @@ use native.Mathlib.Omega.{arith}
 use Rattle.flags.specs.Flags.{isLent}
 use borrow.Author.Needs.{needs}
 use Rattle.layout.specs.Layout.{flagsNumber}
-use Rattle.layout.proofs.Stores.{at-most-one}
+use Rattle.layout.proofs.Bits.{at-most-one}
 use Rattle.layout.proofs.flags_number.Statement.{statement}
 use Rattle.layout.proofs.flags_number.Tie as tie
 

@@ -2,7 +2,7 @@
 use lib.ListN.{length}
 use Rattle.lent_hasher.specs.LentHasher.{newCall}
 use Rattle.answers.proofs.Guards.{refused, done}
-use Rattle.lent_hasher.proofs.Lengths.{new-lengths}
+use Rattle.answers.proofs.Lengths.{new-lengths}
 use borrow.Author.Needs.{needs}
 use Rattle.lent_hasher.proofs.new_lent.Statement.{statement}
 use Rattle.lent_hasher.proofs.new_lent.Tie as tie

@@ -3,7 +3,7 @@ use Prim.Native.Nat.{_≤_}
 use lib.ListN.{length}
 use Rattle.refusal.proofs.Chains.{nothing-is}
 use Rattle.fips.specs.Fips.{mostBytes}
-use Rattle.stream.specs.Loan.{loanOf}
+use Rattle.loan.specs.Loan.{loanOf}
 use Rattle.finish.proofs.Finishing.{tested}
 use Rattle.one_shot.specs.Whole.{wholeOf}
 use Rattle.one_shot.proofs.Fed.{refusal-whole, whole-ready, fed-formed, fed-chain}

@@ -10,7 +10,7 @@ use borrow.Author.Needs.{needs}
 use borrow.Author.Tests.{eq-eqb, ne-eqb}
 use lib.ListN.{length}
 use Rattle.io.specs.Counts.{clamped}
-use Rattle.program.specs.Reads.{Read, readOf}
+use Rattle.reads.specs.Reads.{Read, readOf}
 use Rattle.program.proofs.Intakes.{with-end, with-bytes}
 use Rattle.program.proofs.intake_with.Statement.{statement}
 use Rattle.program.proofs.intake_with.Tie as tie

@@ -4,7 +4,7 @@ use lib.IntN.{ℤ}
 use mir.Syntax.{w64}
 use mir.ValLaws.{toZ-ofZ}
 use borrow.Author.Needs.{needs}
-use Rattle.program.specs.Reads.{messageEnd}
+use Rattle.program.specs.Intakes.{messageEnd}
 use Rattle.program.proofs.message_end.Statement.{statement}
 use Rattle.program.proofs.message_end.Tie as tie
 

@@ -2,12 +2,12 @@
 use Prim.Native.Nat.{_-_, _^_, _<_}
 use native.Mathlib.Numerals.{add-one}
 use borrow.Author.Needs.{needs}
-use Rattle.program.proofs.Places.{SoFar, none-yet, one-more}
+use Rattle.plan.proofs.Places.{AskedSoFar, none-asked, asked-more}
 use Rattle.program_io.proofs.arguments.Statement.{statement}
 use Rattle.program_io.proofs.arguments.Tie as tie
 
 abbrev Inv-loop : tie.InvT-loop
-Inv-loop asked₀ i₀ i-end asked i = SoFar asked i × (i-end < 2 ^ 64)
+Inv-loop asked₀ i₀ i-end asked i = AskedSoFar asked i × (i-end < 2 ^ 64)
 
 abbrev μ-loop : tie.MeasureT-loop
 μ-loop asked₀ i₀ i-end asked i = i-end - i
@@ -19,7 +19,7 @@ arg-count-requires : tie.Need-arg-count-requires Inv-loop μ-loop
 arg-count-requires c κs = search needs
 
 loop-holds : tie.Need-loop-holds Inv-loop μ-loop
-loop-holds c = (rw (c .before .new .ensures) none-yet, search needs)
+loop-holds c = (rw (c .before .new .ensures) none-asked, search needs)
 
 argument-requires : tie.Need-argument-requires Inv-loop μ-loop
 argument-requires c κs = search needs
@@ -36,7 +36,7 @@ loop-less c = search needs
 loop-again : tie.Need-loop-again Inv-loop μ-loop
 loop-again c =
     let l = c .before .before .before .loop .inv in
-    (rw (add-one, c .with .ensures) (one-more (l .0) (c .before .argument .ensures)), search needs)
+    (rw (add-one, c .with .ensures) (asked-more (l .0) (c .before .argument .ensures)), search needs)
 
 returns : tie.Need-returns Inv-loop μ-loop
 returns c = let l = c .before .loop .inv .0 in record { arguments = l .arguments; asked = l .asked }

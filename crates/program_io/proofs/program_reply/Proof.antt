@@ -3,7 +3,7 @@ use mathlib.Core.Path.{sym, _∙_}
 use mathlib.Core.List.{[]}
 use Prim.Native.Nat.{ℕ}
 use lib.IntN.{negsuc}
-use Rattle.program.specs.Files.{File}
+use Rattle.reads.specs.Files.{File}
 use Rattle.program.proofs.Replies.{plan-replies, said-at-once}
 use borrow.Author.Needs.{needs}
 use Rattle.program_io.proofs.program_reply.Statement.{statement}

@@ -8,13 +8,13 @@ use mir.Syntax.{w64}
 use mir.Val.{toZ, ofZ}
 use borrow.Author.Tests.{eq-eqb, ne-eqb}
 use borrow.Rule.Slice.PartMut.{midOf, putMid, take-put}
-use Rattle.program.specs.Reads.{Read, readOf}
-use Rattle.program.proofs.Filling.{SoFar, none-yet, fills-all, fills-end, fills-more}
+use Rattle.reads.specs.Reads.{Read, readOf}
+use Rattle.reads.proofs.Filling.{FilledSoFar, none-filled, fills-all, fills-end, fills-more}
 use Rattle.program_io.proofs.read_file.Statement.{statement}
 use Rattle.program_io.proofs.read_file.Tie as tie
 
 abbrev Inv-loop : tie.InvT-loop
-Inv-loop fd bytes₀ done₀ bytes done = (done ≤ length bytes) × (length bytes ≡ length bytes₀) × SoFar (length bytes₀) (take done bytes)
+Inv-loop fd bytes₀ done₀ bytes done = (done ≤ length bytes) × (length bytes ≡ length bytes₀) × FilledSoFar (length bytes₀) (take done bytes)
 
 abbrev μ-loop : tie.MeasureT-loop
 μ-loop fd bytes₀ done₀ bytes done = length bytes₀ - done
@@ -39,14 +39,14 @@ module _ (c : tie.After-count Inv-loop μ-loop) where
   abbrev read : Read
   read = readOf (toZ w64 (ofZ w64 (from .read .result))) (midOf done (length new - done) new)
 
-  so-far : SoFar (length (at .before .before .before .args .bytes .now)) (take done new)
+  so-far : FilledSoFar (length (at .before .before .before .args .bytes .now)) (take done new)
   so-far = rw (take-put done (length old - done) old (from .read .last .1 .0) (search needs)) (at .before .loop .inv .2)
 
   same : length new ≡ length (at .before .before .before .args .bytes .now)
   same = search needs
 
 loop-holds : tie.Need-loop-holds Inv-loop μ-loop
-loop-holds c = (search needs, search needs, none-yet _)
+loop-holds c = (search needs, search needs, none-filled _)
 
 sub-read : tie.Need-sub-read Inv-loop μ-loop
 sub-read c = search needs

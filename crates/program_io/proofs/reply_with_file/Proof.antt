@@ -4,9 +4,9 @@ use mathlib.Core.List.{List}
 use Prim.Native.Nat.{ℕ, _≤_}
 use lib.ListN.{length}
 use lib.Seq.{length-take-le}
-use Rattle.program.specs.Files.{checkOf}
-use Rattle.program.specs.declared.TableCheck.{TableCheck}
-use Rattle.program.specs.declared.TableCheck.the-variants.{Sound}
+use Rattle.reads.specs.Files.{checkOf}
+use Rattle.reads.specs.declared.TableCheck.{TableCheck}
+use Rattle.reads.specs.declared.TableCheck.the-variants.{Sound}
 use Rattle.program.proofs.Replies.{check-sound, sound-fits, sound-replies, said-replies}
 use borrow.Author.Needs.{needs}
 use Rattle.program_io.proofs.reply_with_file.Statement.{statement}

@@ -10,14 +10,15 @@ use lib.IntN.{ℤ}
 use lib.ListN.{length}
 use mir.Syntax.{w64}
 use mir.ValLaws.{toZ-ofZ}
-use Rattle.program.specs.Reads.{Read, readOf, intakeWith}
-use Rattle.program.proofs.Intakes.{SoFar, none-yet, one-more, turnsLeft, less-left, still-long}
+use Rattle.reads.specs.Reads.{Read, readOf}
+use Rattle.program.specs.Intakes.{intakeWith}
+use Rattle.program.proofs.Intakes.{TakenSoFar, none-taken, taken-more, turnsLeft, less-left, still-long}
 use Rattle.program_io.proofs.take_in.Statement.{statement}
 use Rattle.program_io.proofs.take_in.Tie as tie
 
 abbrev Inv-loop : tie.InvT-loop
 Inv-loop table buf₀ intake₀ buf intake =
-    (length buf ≡ 65536) × (intake .more ≡ true → length (intake .hasher .pending) ≡ 64) × SoFar (intake₀ .hasher) table intake
+    (length buf ≡ 65536) × (intake .more ≡ true → length (intake .hasher .pending) ≡ 64) × TakenSoFar (intake₀ .hasher) table intake
 
 abbrev μ-loop : tie.MeasureT-loop
 μ-loop table buf₀ intake₀ buf intake = turnsLeft intake
@@ -33,7 +34,7 @@ loop-holds c =
     let a = c .before .before .before .args in (
       search needs,
       λ m. rw (c .no-intake .ensures) (search needs),
-      rw (c .no-intake .ensures) (none-yet (a .start) (a .table .now)),
+      rw (c .no-intake .ensures) (none-taken (a .start) (a .table .now)),
     )
 
 slice-aggregate-read : tie.Need-slice-aggregate-read Inv-loop μ-loop
@@ -80,7 +81,7 @@ loop-again c =
     let e = told c in (
       omega (arith, from c .read .kept .1 .0, l .inv .0),
       λ m. rw e (still-long (l .intake .hasher) (given c) (read c) (l .inv .1 more) (rw e at m)),
-      rw e (one-more (l .inv .2) more (read c) (rw (from c .read .kept .1 .0) (from c .read .ensures))),
+      rw e (taken-more (l .inv .2) more (read c) (rw (from c .read .kept .1 .0) (from c .read .ensures))),
     )
 
 returns : tie.Need-returns Inv-loop μ-loop

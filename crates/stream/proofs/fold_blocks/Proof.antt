@@ -5,15 +5,15 @@ use Rattle.stream.proofs.Plain.{chained-plain}
 use Rattle.stream.proofs.fold_blocks.Statement.{statement}
 use Rattle.stream.proofs.fold_blocks.Tie as tie
 
-lent-masks-requires : tie.Need-lent-masks-requires
-lent-masks-requires c κs = search needs
+looked-at-requires : tie.Need-looked-at-requires
+looked-at-requires c κs = search needs
 
 fold-checked-requires : tie.Need-fold-checked-requires
 fold-checked-requires c κs = search needs
 
 returns : tie.Need-returns
 unfolding folded
-returns c = rw (c .fold-checked .ensures, c .before .lent-masks .ensures, c .before .before .if1 .taken)
+returns c = rw (c .fold-checked .ensures, c .before .looked-at .ensures, c .before .before .if1 .taken)
 
 hash-blocks-requires : tie.Need-hash-blocks-requires
 hash-blocks-requires c κs = search needs
@@ -29,7 +29,7 @@ pub fold-blocks-spec : {M : Type 1} → statement M
 fold-blocks-spec =
     tie.close
     (tie.spec
-    lent-masks-requires
+    looked-at-requires
     fold-checked-requires
     returns
     hash-blocks-requires

@@ -2,7 +2,7 @@
 use mathlib.Core.Path.{_≡_, sym, ap, _∙_}
 use Rattle.refusal.specs.Refusal.{isNothing}
 use Rattle.update.specs.Update.{updateRefusal, updated}
-use Rattle.stream.specs.Loan.{loanOf}
+use Rattle.loan.specs.Loan.{loanOf}
 use Rattle.hasher.proofs.Formed.{formed}
 use Rattle.update.proofs.Taken.{refusal-is, update-taken}
 use Rattle.refusal.proofs.Chains.{nothing-is}

@@ -13,14 +13,14 @@ abbrev μ-loop : tie.MeasureT-loop
 loop-holds : tie.Need-loop-holds Inv-loop μ-loop
 loop-holds c = search needs
 
-turned-requires : tie.Need-turned-requires Inv-loop μ-loop
-turned-requires c κs = search needs
+turned-bits-requires : tie.Need-turned-bits-requires Inv-loop μ-loop
+turned-bits-requires c κs = search needs
 
-flags-of-requires : tie.Need-flags-of-requires Inv-loop μ-loop
-flags-of-requires c κs = search needs
+flags-of-bits-requires : tie.Need-flags-of-bits-requires Inv-loop μ-loop
+flags-of-bits-requires c κs = search needs
 
-whole-requires : tie.Need-whole-requires Inv-loop μ-loop
-whole-requires c κs = search needs
+both-ways-requires : tie.Need-both-ways-requires Inv-loop μ-loop
+both-ways-requires c κs = search needs
 
 add-bits : tie.Need-add-bits Inv-loop μ-loop
 add-bits c = search needs
@@ -41,9 +41,9 @@ each-mode-spec =
     Inv-loop
     μ-loop
     loop-holds
-    turned-requires
-    flags-of-requires
-    whole-requires
+    turned-bits-requires
+    flags-of-bits-requires
+    both-ways-requires
     add-bits
     loop-less
     loop-again

@@ -16,8 +16,8 @@ number-at-requires c κs = search needs
 number-at-requires-2 : tie.Need-number-at-requires-2 Inv-loop μ-loop
 number-at-requires-2 c κs = search needs
 
-flags-of-requires : tie.Need-flags-of-requires Inv-loop μ-loop
-flags-of-requires c κs = search needs
+flags-of-bits-requires : tie.Need-flags-of-bits-requires Inv-loop μ-loop
+flags-of-bits-requires c κs = search needs
 
 new-requires : tie.Need-new-requires Inv-loop μ-loop
 new-requires c κs = search needs
@@ -78,7 +78,7 @@ right-spec =
     μ-loop
     number-at-requires
     number-at-requires-2
-    flags-of-requires
+    flags-of-bits-requires
     new-requires
     loop-holds
     byte-at-requires

@@ -30,8 +30,8 @@ loop-holds c = search needs
 line-at-requires : tie.Need-line-at-requires Inv-loop μ-loop
 line-at-requires c κs = search needs
 
-kind-of-requires : tie.Need-kind-of-requires Inv-loop μ-loop
-kind-of-requires c κs = search needs
+line-kind-requires : tie.Need-line-kind-requires Inv-loop μ-loop
+line-kind-requires c κs = search needs
 
 lent-after-requires : tie.Need-lent-after-requires Inv-loop μ-loop
 lent-after-requires c κs = search needs
@@ -72,7 +72,7 @@ replay-spec =
     no-words-requires
     loop-holds
     line-at-requires
-    kind-of-requires
+    line-kind-requires
     lent-after-requires
     words-front-requires
     took-requires

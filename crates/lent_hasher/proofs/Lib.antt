@@ -1,3 +1,0 @@
-pub mod Lengths
-pub mod Kept
-pub mod Finished

@@ -15,7 +15,7 @@ unfolding Ch not32
 chosen c d h =
     xor-zero-r (bitAnd 0xFFFFFFFF c) ∙ and-comm 0xFFFFFFFF c ∙ and-mask c 32 ∙ mod-eq-of-lt h
 
-pub bench : Hold checks
+pub bench-checks : Hold checks
 unfolding rotl not32 Ch Maj _⊟_ stepAt undoAt stepWith undoWith fAt kAt scheduled bytes64
-bench =
+bench-checks =
     (refl, (refl, (refl, (chosen, (refl, (refl, (refl, (refl, (refl, (refl, (refl, (refl, (refl, (refl, (refl, (refl, tt))))))))))))))))

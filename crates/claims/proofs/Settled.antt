@@ -103,7 +103,7 @@ use Rattle.in_place.proofs.update_in_place as in-place
 use Rattle.claims.specs.Settled.{TwoResults, Settled, Equation}
 
 -- what is equal to one meaning is equal
-same : {A : Type 0} {m x y : A} → x ≡ m → y ≡ m → x ≡ y
+pub same : {A : Type 0} {m x y : A} → x ≡ m → y ≡ m → x ≡ y
 same p q = p ∙ sym q
 
 -- A contract that is one equation of the result with a meaning of the arguments settles it, whatever the function.

@@ -25,13 +25,13 @@ use Rattle.claims.proofs.Piecewise.{updatedBy, piecewise-nil, piecewise
 use Rattle.claims.proofs.FinishReset.{finish-reset-outcome, finish-reset-writes}
 
 -- what a reset and a finish-and-reset leave, not refused
-reset-fresh : (h : Hasher) → resetOf h .refusal ≡ Nothing → resetOf h .hasher ≡ freshOf (h .flags)
+pub reset-fresh : (h : Hasher) → resetOf h .refusal ≡ Nothing → resetOf h .hasher ≡ freshOf (h .flags)
 unfolding resetOf
 reset-fresh h =
     of-either (λ (u : Updated). u .refusal ≡ Nothing → u .hasher ≡ freshOf (h .flags)) (wellFormed h) _ _ (λ e. refl)
     (λ e. absurd (omega (arith, ap numberOf e)))
 
-finish-reset-fresh : (h : Hasher) (size : ℕ) (l : Loan) → finishRefusal h size l ≡ Nothing → finishedReset h size l .hasher ≡ freshOf (h .flags)
+pub finish-reset-fresh : (h : Hasher) (size : ℕ) (l : Loan) → finishRefusal h size l ≡ Nothing → finishedReset h size l .hasher ≡ freshOf (h .flags)
 unfolding finishedReset
 finish-reset-fresh h size l e = rw e
 

@@ -41,7 +41,7 @@ abbrev pub outcomeRefusal : Outcome → Refusal
 outcomeRefusal (Done v) = Nothing
 outcomeRefusal (Refused r) = r
 
--- an outcome's number in the table of 01, 0 for a verdict
+-- an outcome's number in the table of 01, as amended; 0 for a verdict
 abbrev pub outcomeNumber : Outcome → ℕ
 outcomeNumber o = numberOf (outcomeRefusal o)
 

@@ -1,4 +1,4 @@
--- What both walks pass: the machine values of a hasher, a refusal and both in one, and the three lent slices. Assumes nothing.
+-- What the walks pass: the machine values of a hasher, a refusal and both in one, and the three lent slices. Assumes nothing.
 use Prim.Native.Nat.{ℕ}
 use mathlib.Core.List.{[], _∷_, List}
 use lib.ListN.{length}
@@ -11,6 +11,7 @@ use prog.Wp.{Heap}
 use ghost.Atoms.{Atoms, sem}
 use types.Kit.{Given, ‵, _⊛_, _$_, _∵_, !, qed, move, use1, split, fsplit, fjoin, frame, done}
 use denote.RattleType.{owns}
+use denote.Laws.{Is}
 use denote.Builtin.{u8, u32}
 use denote.Ref.{RefT}
 use denote.Slice.{sliceVal, ShrSlice, shr-slice-copy}
@@ -35,6 +36,13 @@ machU r = only (LL.vals U.the-type U′.the-laws r)
 
 abbrev pub machN : Refusal → Val
 machN r = only (EL.vals N.the-type N′.the-laws r)
+
+-- what is known of the parts of what `update` returned
+pub hasher-is : (r : Updated) → Is U.the-row r (machU r ∷ []) → Is T.the-row (r .hasher) (mach (r .hasher) ∷ [])
+hasher-is r is = LL.owed U.the-type U′.the-laws r _ is .1 .0
+
+pub refusal-is : (r : Updated) → Is U.the-row r (machU r ∷ []) → Is N.the-row (r .refusal) (machN (r .refusal) ∷ [])
+refusal-is r is = LL.owed U.the-type U′.the-laws r _ is .0
 
 -- the machine value of a slice
 abbrev pub v : RefT (List ℕ) → Val

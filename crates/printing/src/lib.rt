@@ -5,6 +5,7 @@ use flags::Masks;
 use hasher::Hasher;
 use libc::STDOUT_FILENO;
 use refusal::Refusal;
+use refusal::is_nothing;
 use refusal::number;
 use refusal::place;
 use verdict::Verdict;
@@ -50,6 +51,15 @@ pub fn say_refusal(r: Refusal) {
     say_decimal(place(r) as u64);
 }
 
+// What a call says that gives only a refusal or none.
+pub fn say_accepted(r: Refusal) {
+    if is_nothing(r) {
+        say(b"accepted");
+    } else {
+        say_refusal(r);
+    }
+}
+
 fn say_verdict(v: Verdict) {
     match v {
         Verdict::Ok => say(b"ok"),
@@ -70,6 +80,13 @@ pub fn say_answer(o: Outcome, digest: &[u8; 20]) {
     say_outcome(o);
     say(b" ");
     say_hex(digest);
+}
+
+// The verdict or the refusal, and all of the bytes of which the first were lent as the output.
+pub fn say_out(o: Outcome, out: &[u8; 24]) {
+    say_outcome(o);
+    say(b" ");
+    say_hex(out);
 }
 
 fn say_switch(name: &[u8], on: bool) {

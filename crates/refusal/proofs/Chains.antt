@@ -9,7 +9,7 @@ use lib.Dec.{ltb, eqb}
 use Rattle.word.specs.Choice.{pick}
 use Rattle.refusal.specs.Refusal.{numberOf, placeOf, isNothing}
 use Rattle.refusal.specs.declared.Refusal.{Refusal}
-use Rattle.refusal.specs.declared.Refusal.the-variants.{Nothing, HasherForm, TableLength, MaskNumber, TestStep, DmRule, MaskCount, MessageLength, Size, SheetLength}
+use Rattle.refusal.specs.declared.Refusal.the-variants.{Nothing, HasherForm, TableLength, MaskNumber, TestStep, DmRule, MaskCount, MessageLength, Size, SheetLength, NoLane}
 
 -- a test is true exactly when P holds, and false exactly when Q does
 pub record Decides (b : Bool) (P Q : Type 0) : Type 0 where
@@ -83,6 +83,7 @@ kind MaskCount = inr (refl, inl refl)
 kind MessageLength = inr (refl, inl refl)
 kind Size = inr (refl, inl refl)
 kind SheetLength = inr (refl, inl refl)
+kind NoLane = inr (refl, inl refl)
 
 -- only one refusal has the number 0
 pub nothing-is : (r : Refusal) → isNothing r ≡ true → r ≡ Nothing

@@ -5,9 +5,9 @@ use Prim.Native.Nat.{ℕ}
 use lib.Dec.{eqb}
 use Rattle.word.specs.Choice.{pick}
 use Rattle.refusal.specs.declared.Refusal.{Refusal}
-use Rattle.refusal.specs.declared.Refusal.the-variants.{Nothing, HasherForm, TableLength, MaskNumber, TestStep, DmRule, MaskCount, MessageLength, Size, SheetLength}
+use Rattle.refusal.specs.declared.Refusal.the-variants.{Nothing, HasherForm, TableLength, MaskNumber, TestStep, DmRule, MaskCount, MessageLength, Size, SheetLength, NoLane}
 
--- the number in the table of 01; 0 where nothing is refused
+-- the number in the table of 01, as amended; 0 where nothing is refused
 abbrev pub numberOf : Refusal → ℕ
 numberOf Nothing = 0
 numberOf HasherForm = 1
@@ -19,6 +19,7 @@ numberOf MaskCount = 6
 numberOf MessageLength = 7
 numberOf Size = 8
 numberOf SheetLength = 9
+numberOf NoLane = 10
 
 -- the place, from 0, of the record that decides; 0 for the other numbers
 abbrev pub placeOf : Refusal → ℕ
@@ -32,6 +33,7 @@ placeOf MaskCount = 0
 placeOf MessageLength = 0
 placeOf Size = 0
 placeOf SheetLength = 0
+placeOf NoLane = 0
 
 -- whether nothing is refused
 abbrev pub isNothing : Refusal → Bool

@@ -1,4 +1,4 @@
-// What a call can refuse, one case for each number of the paper's table.
+// What a call can refuse, one case for each number of the paper's table and of the requests that amend it.
 ghost use mathlib.Core.Path.{_≡_};
 ghost use Rattle.refusal.specs.Refusal.{numberOf, placeOf, isNothing};
 
@@ -21,6 +21,8 @@ pub enum Refusal {
     Size,
     // 9: the sheet is no whole number of records.
     SheetLength,
+    // 10: the bench has no such lane, is empty or too large.
+    NoLane,
 }
 
 // The paper's number, 0 where nothing is refused.
@@ -38,6 +40,7 @@ pub fn number(r: Refusal) -> u32
         Refusal::MessageLength => 7,
         Refusal::Size => 8,
         Refusal::SheetLength => 9,
+        Refusal::NoLane => 10,
     }
 }
 
@@ -56,6 +59,7 @@ pub fn place(r: Refusal) -> usize
         Refusal::MessageLength => 0,
         Refusal::Size => 0,
         Refusal::SheetLength => 0,
+        Refusal::NoLane => 0,
     }
 }
 

@@ -7,7 +7,6 @@ use cases::field;
 use cases::from_field;
 use cases::front_bytes;
 use cases::number_at;
-use finish::Outcome;
 use finish::finish;
 use finish::finish_and_reset;
 use hasher::Hasher;
@@ -16,13 +15,10 @@ use hasher::reset;
 use in_place::through;
 use one_shot::one_shot;
 use printing::say;
+use printing::say_accepted;
 use printing::say_answer;
 use printing::say_hasher;
-use printing::say_hex;
-use printing::say_outcome;
-use printing::say_refusal;
-use refusal::Refusal;
-use refusal::is_nothing;
+use printing::say_out;
 use update::update;
 
 fn head(line: &[u8]) {
@@ -45,14 +41,6 @@ fn say_back(given: Hasher, back: Hasher) {
         say(b", hasher ");
         say_hasher(back);
         say(b"\n");
-    }
-}
-
-fn say_accepted(r: Refusal) {
-    if is_nothing(r) {
-        say(b"accepted");
-    } else {
-        say_refusal(r);
     }
 }
 
@@ -88,12 +76,6 @@ pub(crate) fn by_finish(line: &[u8], table: &[u32], masks: &[u32]) {
     head(line);
     say_answer(o, &digest);
     say_back(h, g);
-}
-
-fn say_out(o: Outcome, out: &[u8; 24]) {
-    say_outcome(o);
-    say(b" ");
-    say_hex(out);
 }
 
 // The output is lent as the front of 24 bytes; field 13 has its size.

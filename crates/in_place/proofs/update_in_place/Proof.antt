@@ -54,7 +54,7 @@ use Rattle.update.proofs.update as update
 use Rattle.update.proofs.update.Symbol as update-def
 use Rattle.update.proofs.update.Symbol.{name as #update·update}
 use Rattle.update.proofs.update.Met as update-thm
-use Rattle.in_place.proofs.Passed.{mach, machU, machN, v, Slices, slices-twice}
+use Rattle.in_place.proofs.Passed.{mach, machU, machN, hasher-is, refusal-is, v, Slices, slices-twice}
 use Rattle.in_place.proofs.update_in_place.Key.{name as #in-place·update-in-place}
 use Rattle.in_place.proofs.update_in_place as f
 use Rattle.in_place.proofs.update_in_place.Statement as stated
@@ -66,13 +66,6 @@ stayed = (stay-ref (0 ∷ []) tt (plain (λ _. T.the-row)), (stay-none-slice (1 
 -- the contract that the proof cites
 abbrev Upd : {M : Type 1} (𝓤 : URA M) (H : Heap 𝓤) (A : Atoms 𝓤) (mem : Memory → SProp 𝓤) (run : Routine → Fun 𝓤) → Contract 𝓤
 Upd 𝓤 H A mem run = tripleOf 𝓤 H A update.signature (update.spec 𝓤 H A mem run)
-
--- what is known of the parts of what `update` returned
-hasher-is : (r : Updated) → Is U.the-row r (machU r ∷ []) → Is T.the-row (r .hasher) (mach (r .hasher) ∷ [])
-hasher-is r is = LL.owed U.the-type U′.the-laws r _ is .1 .0
-
-refusal-is : (r : Updated) → Is U.the-row r (machU r ∷ []) → Is N.the-row (r .refusal) (machN (r .refusal) ∷ [])
-refusal-is r is = LL.owed U.the-type U′.the-laws r _ is .0
 
 module _ {M : Type 1} (𝓤 : URA M) (H : Heap 𝓤) (A : Atoms 𝓤) (W : Given 𝓤 H A) (at-mem : Memory → SProp 𝓤) (run : Routine → Fun 𝓤) (κ κ₁ κ₂ κ₃ : Lft) (q q₁ q₂ q₃ : Share) (b o : ℕ) (γ : GName) (h : Hasher) (s₁ s₂ s₃ : RefT (List ℕ)) where
   abbrev Arg : Type 0

@@ -1,0 +1,22 @@
+-- What the contracts of the lane calls say of the answer, of the bench at exit and of the lent output at exit. 02, request a.
+use mathlib.Core.Path.{_≡_}
+use mathlib.Core.List.{List}
+use Prim.Native.Nat.{ℕ}
+use Rattle.refusal.specs.declared.Refusal.{Refusal}
+use Rattle.loan.specs.Loan.{Loan}
+use Rattle.hasher.specs.declared.Hasher.{Hasher}
+use Rattle.finish.specs.declared.Outcome.{Outcome}
+use Rattle.bench.specs.Bench.{laneUpdateRefusal, laneUpdated, laneOutcome, laneFinished, laneWritten, laneResetRefusal, laneReset}
+
+-- an update of a lane answers r and leaves the bench `left`
+abbrev pub LaneUpdates : List Hasher → ℕ → List ℕ → Loan → Refusal → List Hasher → Type 0
+LaneUpdates bench lane bytes l r left = (left ≡ laneUpdated bench lane bytes l) × (r ≡ laneUpdateRefusal bench lane bytes l)
+
+-- a finish of a lane answers o, and leaves the bench `left` and the bytes `written` in the lent output
+abbrev pub LaneFinishes : List Hasher → ℕ → List ℕ → Loan → Outcome → List Hasher → List ℕ → Type 0
+LaneFinishes bench lane out l o left written =
+    (left ≡ laneFinished bench lane out l) × (written ≡ laneWritten bench lane out l) × (o ≡ laneOutcome bench lane out l)
+
+-- a reset of a lane answers r and leaves the bench `left`
+abbrev pub LaneResets : List Hasher → ℕ → Refusal → List Hasher → Type 0
+LaneResets bench lane r left = (left ≡ laneReset bench lane) × (r ≡ laneResetRefusal bench lane)

@@ -1,10 +1,10 @@
--- The round functions as the code computes them are those of FIPS 180-4. Assumes nothing.
+-- The round functions as the code computes them are those of FIPS 180-4, and so is the Rust's majority. Assumes nothing.
 use mathlib.Core.Path.{_≡_, sym, ap, _∙_}
 use Prim.Native.Nat.{ℕ, _+_, _%_, _^_, _<_}
 use native.Mathlib.Nat.{mod-eq-of-lt}
-use lib.Bits.{bitAnd, bitXor, xor-disjoint}
+use lib.Bits.{bitAnd, bitOr, bitXor, xor-disjoint}
 use Rattle.word.specs.Word.{Ch, Maj, not32}
-use Rattle.word.proofs.Digits.{b, c, d, nil, and, xor, non, tabled, word-lt}
+use Rattle.word.proofs.Digits.{b, c, d, nil, and, or, xor, non, tabled, word-lt}
 
 module _ (x y z : ℕ) (hx : x < 2 ^ 32) (hy : y < 2 ^ 32) (hz : z < 2 ^ 32) where
   pub choose : bitXor z (bitAnd x (bitXor y z)) ≡ Ch x y z
@@ -15,7 +15,12 @@ module _ (x y z : ℕ) (hx : x < 2 ^ 32) (hy : y < 2 ^ 32) (hz : z < 2 ^ 32) whe
   unfolding Maj
   Maj-lt = word-lt 32 x y z hx hy hz (xor (xor (and b c) (and b d)) (and c d))
 
-  -- the two terms have no bit in common, so the sum is their xor, and does not wrap
+  pub majority-by-or : bitOr (bitAnd x y) (bitAnd z (bitOr x y)) ≡ Maj x y z
+  unfolding Maj
+  majority-by-or =
+      tabled (or (and b c) (and d (or b c))) (xor (xor (and b c) (and b d)) (and c d)) (search) 32 x y z hx hy hz
+
+  -- the Rust's: the two terms have no bit in common, so the sum is their xor, and does not wrap
   pub majority : (bitAnd x y + bitAnd z (bitXor x y)) % 2 ^ 32 ≡ Maj x y z
   unfolding Maj
   majority =

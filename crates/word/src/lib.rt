@@ -26,7 +26,7 @@ pub fn sub(x: u32, y: u32) -> u32
     std::num::wrapping_sub_u32(x, y)
 }
 
-// The round functions, under the Rust's names and as the Rust computes them.
+// The round functions, under the Rust's names. All but majority are as the Rust computes them.
 
 // Choose, of steps 0 to 19.
 pub fn f1(b: u32, c: u32, d: u32) -> u32
@@ -42,11 +42,11 @@ pub fn f2(b: u32, c: u32, d: u32) -> u32
     b ^ c ^ d
 }
 
-// Majority, of steps 40 to 59. The two terms have no bit in common, so that their sum never carries.
+// Majority, of steps 40 to 59, by `and` and `or` alone. The Rust adds two terms that have no bit in common.
 pub fn f3(b: u32, c: u32, d: u32) -> u32
     ensures { λ r. ⌜ r ≡ Maj b c d ⌝ }
 {
-    add(b & c, d & (b ^ c))
+    (b & c) | (d & (b | c))
 }
 
 // Parity again, of steps 60 to 79.

@@ -197,6 +197,27 @@ static void expect(const char *name, uint64_t said, uint64_t wanted)
     printf("  %s gave %d, not %d\n", name, (int)said, (int)wanted);
 }
 
+/* A sheet of one record, of zeros: each verdict with its digest, with another, and with another barcode. */
+static void answers(void)
+{
+    static const struct { uint32_t verdict; int digest, code; uint64_t answer; } cases[] = {
+        { PURSERUMBLE_OK, 0, 0, PURSERUMBLE_MATCH }, { PURSERUMBLE_OK, 1, 0, PURSERUMBLE_DIFFERS },
+        { PURSERUMBLE_MITIGATED, 0, 0, PURSERUMBLE_MARKED }, { PURSERUMBLE_MITIGATED, 1, 0, PURSERUMBLE_MARKED },
+        { PURSERUMBLE_COLLISION, 0, 0, PURSERUMBLE_MARKED }, { PURSERUMBLE_COLLISION, 1, 0, PURSERUMBLE_MARKED },
+        { PURSERUMBLE_OK, 0, 1, PURSERUMBLE_ABSENT }, { PURSERUMBLE_MITIGATED, 0, 1, PURSERUMBLE_ABSENT },
+        { PURSERUMBLE_COLLISION, 0, 1, PURSERUMBLE_ABSENT } };
+    for (size_t i = 0; i < sizeof cases / sizeof *cases; i++) {
+        fresh();
+        m.verdict = cases[i].verdict;
+        m.digest[19] = cases[i].digest;
+        m.code[11] = cases[i].code;
+        m.answer[1] = 9;
+        expect("compare", compare(), 0);
+        expect("compare's answer", m.answer[0], cases[i].answer);
+        expect("compare's second number", m.answer[1], 0);
+    }
+}
+
 /* The functions over structs, with null for what is empty. */
 static void structs(void)
 {
@@ -226,6 +247,8 @@ static void structs(void)
     expect("sheet_lookup's offset", m.answer[0], 12);
     expect("sheet_compare", purserumble_sheet_compare(NULL, 0, m.code, 12, PURSERUMBLE_OK, m.digest, m.answer), 0);
     expect("sheet_compare's answer", m.answer[0], PURSERUMBLE_ABSENT);
+    expect("sheet_compare", purserumble_sheet_compare(m.sheet, 32, m.code, 12, PURSERUMBLE_COLLISION, m.digest, m.answer), 0);
+    expect("sheet_compare's answer", m.answer[0], PURSERUMBLE_MARKED);
 }
 
 int main(void)
@@ -249,6 +272,7 @@ int main(void)
     broken("compare", compare);
     refusals();
     beginnings();
+    answers();
     structs();
     printf("%ld comparisons, %ld differences\n", tried, wrong);
     return wrong != 0;

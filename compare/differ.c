@@ -16,7 +16,7 @@ enum { KINDS = 8, NUMBERS = 17, SHOWN = 5 };
 static struct tally {
     uint64_t requests[KINDS], compared[KINDS], left_out[KINDS], differ[KINDS];
     uint64_t refused[KINDS][NUMBERS];
-    uint64_t marked, marked_later, unmarked_tried, verdicts[3], found, absent, compares[3];
+    uint64_t marked, marked_later, unmarked_tried, verdicts[3], found, absent, compares[4];
 } tally;
 
 struct field { const char *name; int len; };
@@ -77,7 +77,7 @@ static void see(int kind, int call, struct in b)
     } else if (kind == LOOKUP) {
         number(&b, 8) ? tally.found++ : tally.absent++;
     } else if (kind == COMPARE) {
-        tally.compares[(first + 2) % 3]++;
+        tally.compares[(first + 3) % 4]++; /* 1 to 4 */
     }
 }
 
@@ -183,9 +183,9 @@ static uint64_t print(void)
     }
     printf("  in %s's answers: blocks marked %" PRIu64 " (not by the first record %" PRIu64 "), tried and not marked %" PRIu64
         "\n    verdicts ok %" PRIu64 ", mitigated %" PRIu64 ", collision %" PRIu64 "; lookups found %" PRIu64 ", absent %" PRIu64
-        "; compares match %" PRIu64 ", differs %" PRIu64 ", absent %" PRIu64 "\n", name_b, tally.marked, tally.marked_later,
+        "; compares match %" PRIu64 ", differs %" PRIu64 ", absent %" PRIu64 ", marked %" PRIu64 "\n", name_b, tally.marked, tally.marked_later,
         tally.unmarked_tried, tally.verdicts[0], tally.verdicts[1], tally.verdicts[2], tally.found, tally.absent,
-        tally.compares[0], tally.compares[1], tally.compares[2]);
+        tally.compares[0], tally.compares[1], tally.compares[2], tally.compares[3]);
     for (int k = ONE_BLOCK; k < KINDS; k++) {
         if (!tally.requests[k]) continue;
         printf("    refused, %s:", kind_name[k]);

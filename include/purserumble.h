@@ -25,7 +25,7 @@ enum { PURSERUMBLE_DETECT = 1, PURSERUMBLE_MITIGATE = 2, PURSERUMBLE_MASKS_LENT 
 /* Verdicts; 0 is none. */
 enum { PURSERUMBLE_OK = 1, PURSERUMBLE_MITIGATED = 2, PURSERUMBLE_COLLISION = 3 };
 /* Answers of a comparison; 0 is none. */
-enum { PURSERUMBLE_MATCH = 1, PURSERUMBLE_DIFFERS = 2, PURSERUMBLE_ABSENT = 3 };
+enum { PURSERUMBLE_MATCH = 1, PURSERUMBLE_DIFFERS = 2, PURSERUMBLE_ABSENT = 3, PURSERUMBLE_MARKED = 4 };
 /* What is returned where the agreement is broken. */
 enum { PURSERUMBLE_BROKEN_AGREEMENT = 255 };
 
@@ -80,7 +80,8 @@ uint32_t purserumble_table_fault(const uint32_t *table, size_t table_len, uint64
 uint32_t purserumble_lookup(const uint8_t *sheet, size_t sheet_len, const uint8_t *code, size_t code_len,
     uint64_t *part, size_t two);
 
-/* answer (2): 1 match, 2 differs, 3 absent; then 0. The verdict is one of the three; it does not change the answer. */
+/* answer (2): 3 absent where no record has the barcode; else 4 marked where the verdict, one of the three, is not ok; else 1
+ * match or 2 differs; then 0. */
 uint32_t purserumble_compare(const uint8_t *sheet, size_t sheet_len, const uint8_t *code, size_t code_len,
     uint32_t verdict, const uint8_t *digest, size_t twenty, uint64_t *answer, size_t two);
 
@@ -185,7 +186,7 @@ static inline uint32_t purserumble_sheet_lookup(const void *sheet, size_t sheet_
     return purserumble_lookup(purserumble_bytes_at(sheet), sheet_len, purserumble_bytes_at(code), code_len, part, 2);
 }
 
-/* answer: match, differs or absent; then 0. */
+/* answer: match, differs, absent or marked; then 0. */
 static inline uint32_t purserumble_sheet_compare(const void *sheet, size_t sheet_len, const void *code, size_t code_len,
     uint32_t verdict, const uint8_t digest[20], uint64_t answer[2])
 {

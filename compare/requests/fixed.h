@@ -329,7 +329,21 @@ static void marks_stay(void)
             }
 }
 
-/* Sheets of up to 4 records: each record looked for, each byte of barcode and digest turned. */
+/* A lookup or a comparison. */
+static void sheet_call(int kind, const uint8_t *sheet, size_t len, const uint8_t *code, size_t code_len, uint32_t verdict,
+    const uint8_t *digest)
+{
+    put_bytes(&o, sheet, len);
+    put_bytes(&o, code, code_len);
+    if (kind == COMPARE) {
+        put(&o, verdict, 4);
+        put_raw(&o, digest, 20);
+    }
+    write_record(file, kind, &o);
+}
+
+/* Sheets of up to 4 records: each record looked for, each byte of barcode and digest turned; compared with each verdict and with
+ * the numbers beside them, which are none. */
 static void sheets(void)
 {
     uint8_t sheet[128], code[13] = { 0 }, digest[20];
@@ -343,15 +357,9 @@ static void sheets(void)
                     memcpy(code, sheet + 32 * i, 12);
                     memcpy(digest, sheet + 32 * i + 12, 20);
                     if (turn >= 0) { if (turn < 12) code[turn] ^= 4; else digest[turn - 12] ^= 4; }
-                    for (int code_len = turn == -1 ? 11 : 12; code_len < (turn == -1 ? 14 : 13); code_len++) {
-                        put_bytes(&o, sheet, len);
-                        put_bytes(&o, code, code_len);
-                        if (kind == COMPARE) {
-                            put(&o, 1 + (len + i + code_len) % 3, 4);
-                            put_raw(&o, digest, 20);
-                        }
-                        write_record(file, kind, &o);
-                    }
+                    for (int code_len = turn == -1 ? 11 : 12; code_len < (turn == -1 ? 14 : 13); code_len++)
+                        for (int verdict = 0; verdict < (kind == COMPARE ? 5 : 1); verdict++)
+                            sheet_call(kind, sheet, len, code, code_len, verdict, digest);
                 }
 }
 

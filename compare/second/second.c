@@ -400,6 +400,6 @@ uint32_t purserumble_compare(const uint8_t *sheet, size_t sheet_len, const uint8
     answer[0] = answer[1] = 0;
     if (refusal) return refusal;
     size_t at = found_at(sheet, sheet_len, code);
-    answer[0] = at == sheet_len ? 3 : memcmp(sheet + at, digest, twenty) == 0 ? 1 : 2;
+    answer[0] = at == sheet_len ? 3 : verdict != 1 ? 4 : memcmp(sheet + at, digest, twenty) == 0 ? 1 : 2;
     return 0;
 }

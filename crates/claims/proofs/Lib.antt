@@ -21,6 +21,8 @@ pub mod FinishReset
 pub mod Several
 pub mod Settled
 pub mod Unseen
+pub mod OldCompare
+pub mod Audit
 -- the laws that they lean on
 pub mod Below
 pub mod Blocks

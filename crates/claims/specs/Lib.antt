@@ -10,3 +10,4 @@ pub mod Several
 pub mod Control
 pub mod Settled
 pub mod BenchChecks
+pub mod OldCompare

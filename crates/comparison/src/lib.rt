@@ -1,6 +1,6 @@
-// Comparing a digest with the one that the barcode sheet has.
+// Comparing a verdict and its digest with the digest that the barcode sheet has.
 ghost use mathlib.Core.Path.{_≡_};
-ghost use Rattle.comparison.specs.Compare.{comparisonBytes, comparisonOf, comparedOf};
+ghost use Rattle.comparison.specs.Compare.{comparisonBytes, saysMarked, comparisonOf, comparedOf};
 use octets::same_bytes;
 use refusal::Refusal;
 use refusal::is_nothing;
@@ -11,12 +11,14 @@ use verdict::Verdict;
 
 // What a comparison answers.
 pub enum Comparison {
-    // The digest is the one on the sheet.
+    // The verdict is ok, and the digest is the one on the sheet.
     Match,
-    // The sheet has another digest for the barcode.
+    // The verdict is ok, and the sheet has another digest for the barcode.
     Differs,
     // No record has the barcode.
     Absent,
+    // The barcode is on the sheet, and the verdict is not ok: the digest proves nothing.
+    Marked,
 }
 
 // An answer, or why there is none.
@@ -33,15 +35,31 @@ pub fn comparison_word(answer: Comparison) -> [u8; 7]
         Comparison::Match => *b"match\0\0",
         Comparison::Differs => *b"differs",
         Comparison::Absent => *b"absent\0",
+        Comparison::Marked => *b"marked\0",
     }
 }
 
-// What the part that a lookup found says of a digest, whatever the verdict: the empty part has no record behind it.
+// Whether a verdict says that a block was marked.
+fn says_marked(verdict: Verdict) -> bool
+    ensures { λ r. ⌜ r ≡ saysMarked verdict ⌝ }
+{
+    match verdict {
+        Verdict::Ok => false,
+        Verdict::Mitigated => true,
+        Verdict::Collision => true,
+    }
+}
+
+// What the part that a lookup found says of a verdict and a digest. The empty part has no record behind it; and after a mark
+// an equal digest may be that of another message, so that it is not looked at.
 fn compare_part(part: &[u8], verdict: Verdict, digest: [u8; DIGEST_SIZE]) -> Comparison
     ensures { λ r. ⌜ r ≡ comparisonOf (now (part .entry)) verdict digest ⌝ }
 {
     if part.len() == 0 {
         return Comparison::Absent;
+    }
+    if says_marked(verdict) {
+        return Comparison::Marked;
     }
     if !same_bytes(part, &digest) {
         return Comparison::Differs;
@@ -49,7 +67,7 @@ fn compare_part(part: &[u8], verdict: Verdict, digest: [u8; DIGEST_SIZE]) -> Com
     Comparison::Match
 }
 
-// Compares a digest with the one that the sheet has for the barcode.
+// Compares a verdict and its digest with the digest that the sheet has for the barcode.
 pub fn compare(sheet: &[u8], code: &[u8], verdict: Verdict, digest: [u8; DIGEST_SIZE]) -> Compared
     ensures { λ r. ⌜ r ≡ comparedOf (now (sheet .entry)) (now (code .entry)) verdict digest ⌝ }
 {

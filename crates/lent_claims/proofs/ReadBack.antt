@@ -1,4 +1,5 @@
--- A hasher that is read from lent memory of the right form is written back as it lay there; a new one has the flags that were asked for. Assumes nothing.
+-- A hasher that is read from lent memory of the right form is written back as it lay there; a new one has the flags that were asked for;
+-- and a verdict's number is read as that verdict. Assumes nothing.
 use mathlib.Core.Path.{_≡_, refl, sym, ap}
 use mathlib.Core.Bool.{Bool, true, false, _&&_, true≢false}
 use mathlib.Core.Logic.{⊎-elim}
@@ -10,8 +11,10 @@ use lib.Dec.{leb, eqb}
 use lib.ListN.{length}
 use borrow.Author.Tests.{eqb-true, leb-true}
 use Rattle.word.proofs.Tests.{both-true}
+use Rattle.verdict.specs.declared.Verdict.{Verdict}
+use Rattle.verdict.specs.declared.Verdict.the-variants.{Ok, Mitigated, Collision}
 use Rattle.hasher.specs.Hasher.{freshOf}
-use Rattle.layout.specs.Layout.{bitOf, hasWorth, flagsIn, flagsNumber, hasherIn, stateOf, slicesOf, stateFits, hasherFits}
+use Rattle.layout.specs.Layout.{bitOf, hasWorth, flagsIn, flagsNumber, hasherIn, stateOf, slicesOf, stateFits, hasherFits, verdictNumber, verdictKnown, verdictFor}
 
 -- every number below n comes back from f
 unfoldable backs : (ℕ → ℕ) → ℕ → Bool
@@ -58,3 +61,15 @@ unfolding hasherIn
 slices-back w p s e =
     let f = both-true (eqb (length w) 5) (eqb (length p) 64 && stateFits s) e in
     ap (λ (t : List ℕ). w ∷ p ∷ t ∷ []) (state-back w p s (both-true (eqb (length p) 64) (stateFits s) (f .1) .1))
+
+-- a verdict's number is taken,
+pub verdict-number-known : (v : Verdict) → verdictKnown (verdictNumber v) ≡ true
+verdict-number-known Ok = refl
+verdict-number-known Mitigated = refl
+verdict-number-known Collision = refl
+
+-- and stands for that verdict, so that a comparison goes by the verdict that a finish gave
+pub verdict-back : (v : Verdict) → verdictFor (verdictNumber v) ≡ v
+verdict-back Ok = refl
+verdict-back Mitigated = refl
+verdict-back Collision = refl

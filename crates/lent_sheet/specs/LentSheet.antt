@@ -9,7 +9,7 @@ use Rattle.refusal.specs.declared.Refusal.{Refusal}
 use Rattle.verdict.specs.Verdict.{digestSize}
 use Rattle.sheet.specs.Sheet.{lookupRefusal, partFrom, partOf}
 use Rattle.comparison.specs.Compare.{comparedNumber, comparedOf}
-use Rattle.comparison.specs.declared.Comparison.the-variants.{Match, Differs, Absent}
+use Rattle.comparison.specs.declared.Comparison.the-variants.{Match, Differs, Absent, Marked}
 use Rattle.comparison.specs.declared.Compared.{Compared}
 use Rattle.comparison.specs.declared.Compared.the-variants.{Said, Refused}
 use Rattle.layout.specs.Layout.{verdictKnown, verdictFor}
@@ -20,6 +20,7 @@ abbrev pub comparisonIn : Compared → ℕ
 comparisonIn (Said Match) = 1
 comparisonIn (Said Differs) = 2
 comparisonIn (Said Absent) = 3
+comparisonIn (Said Marked) = 4
 comparisonIn (Refused r) = 0
 
 -- what a lookup leaves: where the part begins, and its length

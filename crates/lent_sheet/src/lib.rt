@@ -1,4 +1,4 @@
-// The calls on a lent sheet: looking a barcode up, and comparing a digest.
+// The calls on a lent sheet: looking a barcode up, and comparing a verdict and its digest.
 ghost use mathlib.Core.Path.{_≡_};
 ghost use mathlib.Core.List.{[], _∷_};
 ghost use lib.ListN.{length};
@@ -28,6 +28,7 @@ fn comparison_in(c: Compared) -> u64
             Comparison::Match => 1,
             Comparison::Differs => 2,
             Comparison::Absent => 3,
+            Comparison::Marked => 4,
         },
         Compared::Refused(_) => 0,
     }
@@ -65,7 +66,7 @@ pub fn lookup_lent(sheet: &[u8], code: &[u8], part: &mut [u64]) -> u32
     number(lookup_refusal(sheet, code))
 }
 
-// A digest and the number of its verdict compared with what the sheet has for a barcode.
+// The number of a verdict, and its digest, compared with what the sheet has for a barcode.
 pub fn compare_lent(
     sheet: &[u8],
     code: &[u8],

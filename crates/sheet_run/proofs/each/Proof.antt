@@ -7,10 +7,10 @@ use Rattle.sheet_run.proofs.each.Statement.{statement}
 use Rattle.sheet_run.proofs.each.Tie as tie
 
 abbrev Inv-loop : tie.InvT-loop
-Inv-loop text at₀ at = at ≤ length text
+Inv-loop text table at₀ at = at ≤ length text
 
 abbrev μ-loop : tie.MeasureT-loop
-μ-loop text at₀ at = length text - at
+μ-loop text table at₀ at = length text - at
 
 loop-holds : tie.Need-loop-holds Inv-loop μ-loop
 loop-holds c = search needs

@@ -8,10 +8,10 @@
 
 /* Everything that a call is lent, and the lengths that it is told. Memory is there for one element more. */
 static struct lent {
-    uint32_t words[6], after[6], table[82], mask[1], verdict;
+    uint32_t words[6], after[6], table[82], conditions[12], mask[1], verdict;
     uint64_t flags, state[5], answer[5];
     uint8_t pending[65], bytes[1], digest[21], block[64], sheet[32], code[12];
-    size_t five, five_after, sixty_four, four, twenty, two, four_answers;
+    size_t five, five_after, sixty_four, four, twenty, two, four_answers, condition_words;
 } m;
 
 static void fresh(void)
@@ -25,10 +25,12 @@ static void fresh(void)
     m.four = m.four_answers = 4;
     m.twenty = 20;
     m.two = 2;
+    m.condition_words = 12; /* two conditions that hold and drop nothing */
 }
 
 #define HASHER m.words, m.five, m.pending, m.sixty_four, m.state, m.four
 #define TABLE m.table, 82
+#define CONDITIONS m.conditions, m.condition_words
 #define NO_MASKS m.mask, 0
 #define ANSWER m.answer, m.two
 
@@ -37,15 +39,16 @@ static uint32_t one_block(void)
     return purserumble_one_block(m.words, m.five, m.block, 64, TABLE, 1, 1, 0, m.after, m.five_after, m.answer, m.four_answers);
 }
 static uint32_t new_hasher(void) { return purserumble_new(m.flags, HASHER); }
-static uint32_t update(void) { return purserumble_update(HASHER, m.bytes, 1, TABLE, NO_MASKS, ANSWER); }
+static uint32_t update(void) { return purserumble_update(HASHER, m.bytes, 1, TABLE, CONDITIONS, NO_MASKS, ANSWER); }
 static uint32_t reset(void) { return purserumble_reset(HASHER, ANSWER); }
-static uint32_t finish(void) { return purserumble_finish(HASHER, m.digest, m.twenty, TABLE, NO_MASKS, ANSWER); }
+static uint32_t finish(void) { return purserumble_finish(HASHER, m.digest, m.twenty, TABLE, CONDITIONS, NO_MASKS, ANSWER); }
 static uint32_t finish_and_reset(void)
 {
-    return purserumble_finish_and_reset(HASHER, m.digest, m.twenty, TABLE, NO_MASKS, ANSWER);
+    return purserumble_finish_and_reset(HASHER, m.digest, m.twenty, TABLE, CONDITIONS, NO_MASKS, ANSWER);
 }
 static uint32_t one_shot(void) { return purserumble_one_shot(m.bytes, 1, m.digest, m.twenty, TABLE, m.mask, 1, ANSWER); }
 static uint32_t table_fault(void) { return purserumble_table_fault(TABLE, ANSWER); }
+static uint32_t condition_fault(void) { return purserumble_condition_fault(CONDITIONS, ANSWER); }
 static uint32_t lookup(void) { return purserumble_lookup(m.sheet, 32, m.code, 12, ANSWER); }
 static uint32_t compare(void)
 {
@@ -53,6 +56,13 @@ static uint32_t compare(void)
 }
 
 static long tried, wrong;
+
+/* Whether a number stands for flags. */
+static int known(uint64_t flags)
+{
+    const uint64_t both = PURSERUMBLE_MASKS_LENT | PURSERUMBLE_CONDITIONS;
+    return flags < 32 && (flags & both) != both;
+}
 
 /* One call after one change; the change alone is there afterwards. */
 static void broken(const char *name, uint32_t (*call)(void))
@@ -132,15 +142,19 @@ static void beginnings(void)
     lengths("new", new_hasher, &m.five);
     lengths("new", new_hasher, &m.sixty_four);
     lengths("new", new_hasher, &m.four);
-    for (int bit = 4; bit < 64; bit++) {
+    for (int bit = 5; bit < 64; bit++) {
         fresh();
         m.flags = (uint64_t)1 << bit;
         broken("new", new_hasher);
     }
-    for (uint64_t flags = 0; flags < 16; flags++) {
+    for (uint64_t flags = 0; flags < 32; flags++) {
         struct lent want;
         fresh();
         m.flags = flags;
+        if (!known(flags)) {
+            broken("new", new_hasher);
+            continue;
+        }
         want = m;
         memcpy(want.words, start, sizeof start);
         want.state[3] = flags;
@@ -185,7 +199,12 @@ static void hasher(const char *name, uint32_t (*call)(void))
         broken(name, call);
         fresh();
         m.state[3] |= (uint64_t)1 << bit;
-        if (bit > 3) broken(name, call);
+        if (bit > 4) broken(name, call);
+    }
+    for (uint64_t flags = 0; flags < 32; flags++) {
+        fresh();
+        m.state[3] = flags;
+        if (!known(flags)) broken(name, call);
     }
 }
 
@@ -195,6 +214,41 @@ static void expect(const char *name, uint64_t said, uint64_t wanted)
     if (said == wanted) return;
     wrong++;
     printf("  %s gave %d, not %d\n", name, (int)said, (int)wanted);
+}
+
+/* One call on conditions of which the second is bad in its word n, or which are so many words: the number and the place. */
+static void conditioned(const char *name, uint32_t (*call)(void), uint64_t flags, size_t n, uint32_t word, size_t words, uint32_t number)
+{
+    filled();
+    m.state[3] = flags;
+    m.conditions[6 + n] = word;
+    m.condition_words = words;
+    m.table[0] = 32;
+    refused(name, call, number);
+    call();
+    expect("the place of what is wrong with conditions", m.answer[1], number == 13);
+}
+
+/* Conditions are refused where they are looked at, before the table, and nowhere else. */
+static void conditions(void)
+{
+    static const struct { const char *name; uint32_t (*call)(void); } calls[] = {
+        { "update", update }, { "finish", finish }, { "finish_and_reset", finish_and_reset }, { "condition_fault", condition_fault } };
+    static const uint32_t bad[5] = { 80, 32, 80, 32, 2 };
+    for (size_t i = 0; i < sizeof calls / sizeof *calls; i++) {
+        const int hashes = calls[i].call != condition_fault;
+        for (size_t n = 0; n < 5; n++) {
+            conditioned(calls[i].name, calls[i].call, 17, n, bad[n], 12, 13);
+            conditioned(calls[i].name, calls[i].call, 17, n, bad[n], 11, 12);
+            if (hashes) conditioned(calls[i].name, calls[i].call, 17, n, bad[n] - 1, 12, 3);
+            if (hashes) conditioned(calls[i].name, calls[i].call, 1, n, bad[n], 11, 3);
+        }
+        fresh();
+        m.state[3] = 16;
+        m.condition_words = hashes ? 11 : 12;
+        m.table[0] = hashes ? 32 : 0;
+        expect(calls[i].name, calls[i].call(), 0);
+    }
 }
 
 /* A sheet of one record, of zeros: each verdict with its digest, with another, and with another barcode. */
@@ -223,10 +277,11 @@ static void structs(void)
 {
     static const uint8_t of_nothing[20] = { 0xda, 0x39, 0xa3, 0xee, 0x5e, 0x6b, 0x4b, 0x0d, 0x32, 0x55,
         0xbf, 0xef, 0x95, 0x60, 0x18, 0x90, 0xaf, 0xd8, 0x07, 0x09 };
-    const struct purserumble_loan loan = { m.table, 82, NULL, 0 };
+    const struct purserumble_loan loan = { m.table, 82, NULL, 0, NULL, 0 };
+    const struct purserumble_loan short_of_one = { m.table, 82, NULL, 0, m.conditions, 5 };
     struct purserumble_hasher h;
     fresh();
-    expect("hasher_new", purserumble_hasher_new(&h, 16), 255);
+    expect("hasher_new", purserumble_hasher_new(&h, 32), 255);
     expect("hasher_new", purserumble_hasher_new(&h, 0), 0);
     expect("hasher_update", purserumble_hasher_update(&h, NULL, 0, NULL, m.answer), 0);
     expect("hasher_finish", purserumble_hasher_finish(&h, m.digest, NULL, m.answer), 0);
@@ -242,6 +297,8 @@ static void structs(void)
     expect("block_words's mark", m.answer[0], 1);
     expect("loan_fault", purserumble_loan_fault(NULL, m.answer), 2);
     expect("loan_fault", purserumble_loan_fault(&loan, m.answer), 0);
+    expect("loan_condition_fault", purserumble_loan_condition_fault(NULL, m.answer), 0);
+    expect("loan_condition_fault", purserumble_loan_condition_fault(&short_of_one, m.answer), 12);
     expect("sheet_lookup", purserumble_sheet_lookup(NULL, 0, NULL, 0, m.answer), 8);
     expect("sheet_lookup", purserumble_sheet_lookup(m.sheet, 32, m.code, 12, m.answer), 0);
     expect("sheet_lookup's offset", m.answer[0], 12);
@@ -251,12 +308,35 @@ static void structs(void)
     expect("sheet_compare's answer", m.answer[0], PURSERUMBLE_MARKED);
 }
 
+/* The control record, kept and dropped by a condition on one bit and itself; with no conditions it is kept. */
+static void selected(void)
+{
+    static const struct { uint32_t wanted; size_t words; uint64_t verdict; } cases[] = {
+        { 0, 6, PURSERUMBLE_MITIGATED }, { 1, 6, PURSERUMBLE_OK }, { 1, 0, PURSERUMBLE_MITIGATED } };
+    for (size_t i = 0; i < sizeof cases / sizeof *cases; i++) {
+        const struct purserumble_loan loan = { m.table, 82, NULL, 0, m.conditions, cases[i].words };
+        struct purserumble_hasher h;
+        fresh();
+        m.conditions[4] = cases[i].wanted;
+        m.conditions[5] = 1;
+        purserumble_hasher_new(&h, PURSERUMBLE_DETECT | PURSERUMBLE_MITIGATE | PURSERUMBLE_CONDITIONS);
+        expect("hasher_update", purserumble_hasher_update(&h, m.block, 64, &loan, m.answer), 0);
+        expect("the mark after a block", h.state[2], cases[i].verdict != PURSERUMBLE_OK);
+        expect("hasher_finish", purserumble_hasher_finish(&h, m.digest, &loan, m.answer), 0);
+        expect("hasher_finish's verdict", m.answer[0], cases[i].verdict);
+        expect("hasher_reset", purserumble_hasher_reset(&h), 0);
+        expect("hasher_finish_and_reset", purserumble_hasher_finish_and_reset(&h, m.digest, &loan, m.answer), 0);
+        expect("hasher_finish_and_reset's verdict", m.answer[0], cases[i].verdict);
+    }
+}
+
 int main(void)
 {
     static const struct { const char *name; uint32_t (*call)(void); int hasher, digest, two; } calls[] = {
         { "one_block", one_block, 0, 0, 0 }, { "update", update, 1, 0, 1 }, { "reset", reset, 1, 0, 1 },
         { "finish", finish, 1, 0, 1 }, { "finish_and_reset", finish_and_reset, 1, 0, 1 }, { "one_shot", one_shot, 0, 1, 1 },
-        { "table_fault", table_fault, 0, 0, 1 }, { "lookup", lookup, 0, 0, 1 }, { "compare", compare, 0, 1, 1 } };
+        { "table_fault", table_fault, 0, 0, 1 }, { "condition_fault", condition_fault, 0, 0, 1 },
+        { "lookup", lookup, 0, 0, 1 }, { "compare", compare, 0, 1, 1 } };
     for (size_t i = 0; i < sizeof calls / sizeof *calls; i++) {
         kept(calls[i].name, calls[i].call);
         if (calls[i].hasher) hasher(calls[i].name, calls[i].call);
@@ -274,6 +354,8 @@ int main(void)
     beginnings();
     answers();
     structs();
+    conditions();
+    selected();
     printf("%ld comparisons, %ld differences\n", tried, wrong);
     return wrong != 0;
 }

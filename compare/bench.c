@@ -7,7 +7,7 @@
 #include "format.h"
 #include "../include/purserumble.h"
 
-enum { SEATS = 17, MOST_LANES = 16, TABLE_WORDS = 33 * 82, ROOM = 24, MOST_FIELDS = 9 };
+enum { SEATS = 17, MOST_LANES = 16, TABLE_WORDS = 33 * 82, CONDITION_WORDS = 6 * 514, ROOM = 24, MOST_FIELDS = 10 };
 
 static struct purserumble_hasher row[SEATS];
 static uint64_t lent = MOST_LANES;
@@ -54,7 +54,7 @@ static size_t bytes_in(const struct line *l, int i, uint8_t *bytes, size_t most)
 
 static size_t words_in(const struct line *l, int i, uint32_t *words, size_t most)
 {
-    static uint8_t bytes[1024];
+    static uint8_t bytes[4 * CONDITION_WORDS];
     size_t n = bytes_in(l, i, bytes, sizeof bytes) / 4;
     if (n > most) stop("a field has too many words");
     for (size_t k = 0; k < n; k++)
@@ -64,9 +64,9 @@ static size_t words_in(const struct line *l, int i, uint32_t *words, size_t most
 
 /* ---- What is lent ---- */
 
-struct borrowed { uint32_t table[TABLE_WORDS], masks[64]; };
+struct borrowed { uint32_t table[TABLE_WORDS], masks[64], conditions[CONDITION_WORDS]; };
 
-/* The first words of 33 control records of which two words are changed, and the masks. */
+/* The first words of 33 control records of which two words are changed, the masks, and the conditions. */
 static struct purserumble_loan loan_of(const struct line *l, struct borrowed *b)
 {
     for (size_t i = 0; i < TABLE_WORDS; i++) b->table[i] = i % 82 == 1 ? 58 : 0;
@@ -75,7 +75,9 @@ static struct purserumble_loan loan_of(const struct line *l, struct borrowed *b)
         b->table[number_in(l, i)] = number_in(l, i + 1);
     }
     uint64_t words = number_in(l, 6);
-    struct purserumble_loan loan = { b->table, words < TABLE_WORDS ? words : TABLE_WORDS, b->masks, words_in(l, 7, b->masks, 64) };
+    struct purserumble_loan loan = { .table = b->table, .table_words = words < TABLE_WORDS ? words : TABLE_WORDS,
+        .masks = b->masks, .mask_count = words_in(l, 7, b->masks, 64),
+        .conditions = b->conditions, .condition_words = words_in(l, 9, b->conditions, CONDITION_WORDS) };
     return loan;
 }
 
@@ -106,7 +108,8 @@ static void write_row(void)
         write_switch(", mark", h->state[2]);
         write_switch(", detection", h->state[3] & PURSERUMBLE_DETECT);
         write_switch(", mitigation", h->state[3] & PURSERUMBLE_MITIGATE);
-        write_switch(", masks", h->state[3] & PURSERUMBLE_MASKS_LENT);
+        if (h->state[3] & PURSERUMBLE_CONDITIONS) printf(", conditions");
+        else write_switch(", masks", h->state[3] & PURSERUMBLE_MASKS_LENT);
         write_switch(", reduced rounds", h->state[3] & PURSERUMBLE_REDUCED);
         printf("\n");
     }
@@ -144,7 +147,7 @@ static void finish(const struct line *l)
     memset(out, 0xAA, ROOM);
     if (number_in(l, 8) > ROOM) stop("an output too long");
     uint32_t refusal = h ? purserumble_finish_and_reset(h->words, 5, h->pending, 64, h->state, 4, out, number_in(l, 8),
-        loan.table, loan.table_words, loan.masks, loan.mask_count, answer, 2) : 10;
+        loan.table, loan.table_words, loan.conditions, loan.condition_words, loan.masks, loan.mask_count, answer, 2) : 10;
     write_done("finish", l, refusal, answer[1]);
     if (!refusal) printf("%s", verdicts[answer[0] & 3]);
     printf(" ");

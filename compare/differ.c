@@ -12,7 +12,7 @@
 #include <inttypes.h>
 
 /* What is counted. The rows of `seen` come from the side named last. */
-enum { KINDS = 8, NUMBERS = 17, SHOWN = 5 };
+enum { KINDS = 9, NUMBERS = 17, SHOWN = 5 };
 static struct tally {
     uint64_t requests[KINDS], compared[KINDS], left_out[KINDS], differ[KINDS];
     uint64_t refused[KINDS][NUMBERS];
@@ -33,7 +33,8 @@ static const struct field lookup_fields[] = { { "refusal", 4 }, { "offset", 8 },
 static const struct field compare_fields[] = { { "refusal", 4 }, { "answer", 8 }, { 0, 0 } };
 
 static const char *kind_name[KINDS] = {
-    "", "tables", "one-block answers", "calls in sessions", "one-shot answers", "table checks", "lookups", "compares" };
+    "", "tables", "one-block answers", "calls in sessions", "one-shot answers", "table checks", "lookups", "compares",
+    "condition checks" };
 static const char *call_name[] = { "?", "update", "reset", "finish", "finish-and-reset" };
 
 static const char *name_a, *name_b;
@@ -129,7 +130,7 @@ static int next_call(struct in *body)
 {
     int call = number(body, 1);
     if (call != RESET) {
-        number(body, 4);
+        take(body, 8);
         if (call == UPDATE) take(body, number(body, 4));
         take(body, 4 * number(body, 4));
     }
@@ -148,7 +149,7 @@ static void add(const char *requests, const char *answers_a, const char *answers
         request = body;
         if (kind == ONE_BLOCK) one(n, kind, 0, block_fields, 0, &a, &b);
         else if (kind == ONE_SHOT) one(n, kind, 0, shot_fields, 0, &a, &b);
-        else if (kind == TABLE_CHECK) one(n, kind, 0, check_fields, 0, &a, &b);
+        else if (kind == TABLE_CHECK || kind == CONDITION_CHECK) one(n, kind, 0, check_fields, 0, &a, &b);
         else if (kind == LOOKUP) one(n, kind, 0, lookup_fields, 1, &a, &b);
         else if (kind == COMPARE) one(n, kind, 0, compare_fields, 0, &a, &b);
         else {

@@ -3,17 +3,20 @@
  * All numbers are big-endian. A file is a run of records: a kind (1 byte), the length of the body (4 bytes), the body.
  *
  * Requests
- *   1 table      slot u32, then words u32 each. It is lent by later requests that name the slot, and has no answer.
+ *   1 table      slot u32, then words u32 each. It is lent by later requests that name the slot, as a table or as conditions,
+ *                and has no answer.
  *   2 one block  words 5 x u32, slot u32, mask u32, flags u8, then the block's bytes
  *   3 session    a hasher, then calls up to the end of the body, each beginning with u8:
- *                  1 update            slot u32, bytes, masks
+ *                  1 update            slot u32, the conditions' slot u32, bytes, masks
  *                  2 reset
- *                  3 finish            slot u32, masks
- *                  4 finish-and-reset  slot u32, masks, the output's length u32 and what it is filled with u8
+ *                  3 finish            slot u32, the conditions' slot u32, masks
+ *                  4 finish-and-reset  slot u32, the conditions' slot u32, masks, the output's length u32 and what it is
+ *                                      filled with u8
  *   4 one-shot   slot u32, bytes, masks
  *   5 table check  slot u32
  *   6 lookup     sheet and barcode, both as bytes
  *   7 compare    sheet and barcode, both as bytes, verdict u32, digest 20 bytes
+ *   8 condition check  slot u32
  *
  * Answers
  *   2 one block  known u8, refusal u32, its place u64, mark u64, place u64, tried u64, words 5 x u32
@@ -23,10 +26,11 @@
  *   5 table check  known u8, refusal u32, its place u64
  *   6 lookup     known u8, refusal u32, offset u64, length u64, the part's bytes
  *   7 compare    known u8, refusal u32, answer u64
+ *   8 condition check  known u8, refusal u32, its place u64
  *
  * A hasher is words 5 x u32, pending 64 bytes, fill u64, blocks u64, mark u64, flags u64.
  * Bytes are a length u32 and so many bytes; masks are a count u32 and so many u32.
- * Flags are 1 detect, 2 mitigate, 4 masks lent, 8 reduced-round.
+ * Flags are 1 detect, 2 mitigate, 4 masks lent, 8 reduced-round, 16 conditions; 4 and 16 exclude each other.
  * Known is 0 where a program has no answer (the Rust refuses nothing and has no sheet); the rest is then zero.
  */
 #ifndef FORMAT_H
@@ -36,9 +40,9 @@
 #include <stdlib.h>
 #include <string.h>
 
-enum { TABLE = 1, ONE_BLOCK, SESSION, ONE_SHOT, TABLE_CHECK, LOOKUP, COMPARE };
+enum { TABLE = 1, ONE_BLOCK, SESSION, ONE_SHOT, TABLE_CHECK, LOOKUP, COMPARE, CONDITION_CHECK };
 enum { UPDATE = 1, RESET, FINISH, FINISH_AND_RESET };
-enum { DETECT = 1, MITIGATE = 2, LENT = 4, REDUCED = 8 };
+enum { DETECT = 1, MITIGATE = 2, LENT = 4, REDUCED = 8, CONDITIONS = 16 };
 enum { HASHER_BYTES = 20 + 64 + 32 };
 
 static inline void stop(const char *why) { fprintf(stderr, "%s\n", why); exit(2); }

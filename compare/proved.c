@@ -83,13 +83,14 @@ static void call_answer(struct out *o, uint32_t refusal, const uint64_t answer[2
 }
 
 /* One call of a session, as the request has it. */
-struct call { int what; uint32_t slot; struct in bytes; uint32_t *masks; size_t masks_len; struct lent out; };
+struct call { int what; uint32_t slot, conditions; struct in bytes; uint32_t *masks; size_t masks_len; struct lent out; };
 
 static struct call call_of(struct in *body)
 {
     struct call c = { .what = number(body, 1) };
     if (c.what != RESET) {
         c.slot = slot_of(body);
+        c.conditions = slot_of(body);
         if (c.what == UPDATE) {
             c.bytes.left = number(body, 4);
             c.bytes.at = take(body, c.bytes.left);
@@ -105,7 +106,7 @@ static struct call call_of(struct in *body)
 struct hasher { uint32_t words[5]; struct lent pending; uint64_t state[4]; };
 
 #define HASHER h->words, 5, h->pending.at, 64, h->state, 4
-#define LENT_TO(c) TABLE_OF((c).slot), (c).masks, (c).masks_len
+#define LENT_TO(c) TABLE_OF((c).slot), TABLE_OF((c).conditions), (c).masks, (c).masks_len
 
 static uint32_t made(struct call c, struct hasher *h, uint64_t answer[2])
 {
@@ -155,11 +156,13 @@ static void one_shot(struct in body, struct out *o)
     free(masks);
 }
 
-static void table_check(struct in body, struct out *o)
+/* What is wrong with a table, or with conditions. */
+static void check(int kind, struct in body, struct out *o)
 {
     uint32_t slot = slot_of(&body);
     uint64_t answer[2] = { 99, 99 };
-    uint32_t refusal = purserumble_table_fault(TABLE_OF(slot), answer, 2);
+    uint32_t refusal = kind == TABLE_CHECK ? purserumble_table_fault(TABLE_OF(slot), answer, 2)
+        : purserumble_condition_fault(TABLE_OF(slot), answer, 2);
     put(o, 1, 1);
     put(o, refusal, 4);
     put(o, answer[1], 8);
@@ -208,7 +211,7 @@ int main(int argc, char **argv)
         if (kind == ONE_BLOCK) one_block(body, &o);
         else if (kind == SESSION) session(body, &o);
         else if (kind == ONE_SHOT) one_shot(body, &o);
-        else if (kind == TABLE_CHECK) table_check(body, &o);
+        else if (kind == TABLE_CHECK || kind == CONDITION_CHECK) check(kind, body, &o);
         else if (kind == LOOKUP) lookup(body, &o);
         else if (kind == COMPARE) compare(body, &o);
         else stop("no such request");

@@ -7,7 +7,7 @@ int main(void)
 {
     static const char *const verdicts[] = { "refused", "ok", "mitigated", "collision" };
     static const uint32_t table[82] = { 0, 58 };
-    const struct purserumble_loan loan = { table, 82, NULL, 0 };
+    const struct purserumble_loan loan = { table, 82, NULL, 0, NULL, 0 };
     struct purserumble_hasher h;
     uint8_t digest[20] = { 0 };
     uint64_t answer[2] = { 0, 0 };

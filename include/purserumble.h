@@ -1,7 +1,8 @@
 /* SHA-1 with collision detection: the calls of the static library that `rt staticlib export` makes, for C and C++.
  *
  * Null pointers: the calls over slices, in the middle, take none, not even with length 0. The functions over structs, at
- * the end, do: a message, table, masks, sheet or barcode that is null with length 0 is empty, and no loan is an empty one.
+ * the end, do: a message, table, conditions, masks, sheet or barcode that is null with length 0 is empty, and no loan is an
+ * empty one.
  *
  * Begin a hasher with purserumble_hasher_new: one of zeros is well formed too, but is no start of a message.
  *
@@ -20,8 +21,10 @@ extern "C" {
 #endif
 
 /* Flags of a hasher, to be added up: detection; mitigation of marked blocks; masks, of which a call is then lent one for each
- * block that it compresses; reduced-round mode. */
-enum { PURSERUMBLE_DETECT = 1, PURSERUMBLE_MITIGATE = 2, PURSERUMBLE_MASKS_LENT = 4, PURSERUMBLE_REDUCED = 8 };
+ * block that it compresses; reduced-round mode; conditions, of which a call is then lent a table, and each block is tried with
+ * the vectors that survive it. Masks and conditions are not set both: that, and a number above 31, are no flags. */
+enum { PURSERUMBLE_DETECT = 1, PURSERUMBLE_MITIGATE = 2, PURSERUMBLE_MASKS_LENT = 4, PURSERUMBLE_REDUCED = 8,
+    PURSERUMBLE_CONDITIONS = 16 };
 /* Verdicts; 0 is none. */
 enum { PURSERUMBLE_OK = 1, PURSERUMBLE_MITIGATED = 2, PURSERUMBLE_COLLISION = 3 };
 /* Answers of a comparison; 0 is none. */
@@ -38,7 +41,9 @@ enum { PURSERUMBLE_BROKEN_AGREEMENT = 255 };
  *   pending  the 64 pending bytes
  *   state    fill, blocks, mark (0 or 1), flags
  *            these three are the hasher; they are changed in place where they are not const
- *   answer   first what the call says, 0 on refusal; then the place of the refused record, 0 for other numbers
+ *   answer   first what the call says, 0 on refusal; then the place of the refused record, of the table or of the
+ *            conditions, 0 for other numbers
+ * table, conditions and masks are looked at only where the flags ask for them; what is not looked at may be anything.
  */
 
 /* after (5): the new chaining words. answer (4): mark, place, tried, the refused record's place. */
@@ -46,14 +51,14 @@ uint32_t purserumble_one_block(const uint32_t *words, size_t five, const uint8_t
     const uint32_t *table, size_t table_len, uint32_t mask, bool mitigate, bool reduced,
     uint32_t *after, size_t five_after, uint64_t *answer, size_t four);
 
-/* A hasher at the start of a message, whatever was there before. No answer: it gives 0, or 255 for flags above 15. */
+/* A hasher at the start of a message, whatever was there before. No answer: it gives 0, or 255 for a number that is no flags. */
 uint32_t purserumble_new(uint64_t flags, uint32_t *words, size_t five, uint8_t *pending, size_t sixty_four,
     uint64_t *state, size_t four);
 
 /* answer (2): 0, the refused record's place. */
 uint32_t purserumble_update(uint32_t *words, size_t five, uint8_t *pending, size_t sixty_four,
     uint64_t *state, size_t four, const uint8_t *bytes, size_t bytes_len, const uint32_t *table, size_t table_len,
-    const uint32_t *masks, size_t masks_len, uint64_t *answer, size_t two);
+    const uint32_t *conditions, size_t conditions_len, const uint32_t *masks, size_t masks_len, uint64_t *answer, size_t two);
 
 /* answer (2): 0, 0. */
 uint32_t purserumble_reset(uint32_t *words, size_t five, uint8_t *pending, size_t sixty_four,
@@ -62,19 +67,22 @@ uint32_t purserumble_reset(uint32_t *words, size_t five, uint8_t *pending, size_
 /* answer (2): the verdict, the refused record's place. The hasher stays as given. A digest of other than 20 bytes gives 8. */
 uint32_t purserumble_finish(const uint32_t *words, size_t five, const uint8_t *pending, size_t sixty_four,
     const uint64_t *state, size_t four, uint8_t *digest, size_t digest_len, const uint32_t *table, size_t table_len,
-    const uint32_t *masks, size_t masks_len, uint64_t *answer, size_t two);
+    const uint32_t *conditions, size_t conditions_len, const uint32_t *masks, size_t masks_len, uint64_t *answer, size_t two);
 
 /* answer (2): as finish. Writes the output and resets the hasher, or on refusal neither. */
 uint32_t purserumble_finish_and_reset(uint32_t *words, size_t five, uint8_t *pending, size_t sixty_four,
     uint64_t *state, size_t four, uint8_t *out, size_t out_len, const uint32_t *table, size_t table_len,
-    const uint32_t *masks, size_t masks_len, uint64_t *answer, size_t two);
+    const uint32_t *conditions, size_t conditions_len, const uint32_t *masks, size_t masks_len, uint64_t *answer, size_t two);
 
-/* answer (2): the verdict, the refused record's place. */
+/* answer (2): the verdict, the refused record's place. Its flags are detection, mitigation and masks: it knows no conditions. */
 uint32_t purserumble_one_shot(const uint8_t *bytes, size_t bytes_len, uint8_t *digest, size_t twenty,
     const uint32_t *table, size_t table_len, const uint32_t *masks, size_t masks_len, uint64_t *answer, size_t two);
 
 /* answer (2): 0, the refused record's place. */
 uint32_t purserumble_table_fault(const uint32_t *table, size_t table_len, uint64_t *answer, size_t two);
+
+/* answer (2): 0, the refused condition's place. */
+uint32_t purserumble_condition_fault(const uint32_t *conditions, size_t conditions_len, uint64_t *answer, size_t two);
 
 /* part (2): the found part's offset from the sheet's start, and its length. */
 uint32_t purserumble_lookup(const uint8_t *sheet, size_t sheet_len, const uint8_t *code, size_t code_len,
@@ -90,8 +98,13 @@ uint32_t purserumble_compare(const uint8_t *sheet, size_t sheet_len, const uint8
 /* A hasher. Copy it freely: it holds no pointer. */
 struct purserumble_hasher { uint32_t words[5]; uint8_t pending[64]; uint64_t state[4]; };
 
-/* What is lent to one call: the words of a table, 82 for each record, and the masks. */
-struct purserumble_loan { const uint32_t *table; size_t table_words; const uint32_t *masks; size_t mask_count; };
+/* What is lent to one call: the words of a table, 82 for each record; the masks; the words of a table of conditions, 6 for
+ * each. The conditions stand last so that a loan written without them has none. */
+struct purserumble_loan {
+    const uint32_t *table; size_t table_words;
+    const uint32_t *masks; size_t mask_count;
+    const uint32_t *conditions; size_t condition_words;
+};
 
 /* An address for what is empty, as the library takes no null pointer. */
 static inline const uint32_t *purserumble_words_at(const uint32_t *words)
@@ -108,14 +121,15 @@ static inline const uint8_t *purserumble_bytes_at(const void *bytes)
 
 static inline struct purserumble_loan purserumble_loan_at(const struct purserumble_loan *loan)
 {
-    struct purserumble_loan l = { 0, 0, 0, 0 };
+    struct purserumble_loan l = { 0, 0, 0, 0, 0, 0 };
     if (loan) l = *loan;
     l.table = purserumble_words_at(l.table);
     l.masks = purserumble_words_at(l.masks);
+    l.conditions = purserumble_words_at(l.conditions);
     return l;
 }
 
-/* A hasher at the start of a message: 0, or 255 for flags above 15. */
+/* A hasher at the start of a message: 0, or 255 for a number that is no flags. */
 static inline uint32_t purserumble_hasher_new(struct purserumble_hasher *h, uint64_t flags)
 {
     return purserumble_new(flags, h->words, 5, h->pending, 64, h->state, 4);
@@ -127,7 +141,7 @@ static inline uint32_t purserumble_hasher_update(struct purserumble_hasher *h, c
 {
     struct purserumble_loan l = purserumble_loan_at(loan);
     return purserumble_update(h->words, 5, h->pending, 64, h->state, 4, purserumble_bytes_at(bytes), bytes_len,
-        l.table, l.table_words, l.masks, l.mask_count, answer, 2);
+        l.table, l.table_words, l.conditions, l.condition_words, l.masks, l.mask_count, answer, 2);
 }
 
 /* Everything but the flags as at the start. */
@@ -143,7 +157,7 @@ static inline uint32_t purserumble_hasher_finish(const struct purserumble_hasher
 {
     struct purserumble_loan l = purserumble_loan_at(loan);
     return purserumble_finish(h->words, 5, h->pending, 64, h->state, 4, digest, 20,
-        l.table, l.table_words, l.masks, l.mask_count, answer, 2);
+        l.table, l.table_words, l.conditions, l.condition_words, l.masks, l.mask_count, answer, 2);
 }
 
 /* The same, and a reset. */
@@ -152,10 +166,10 @@ static inline uint32_t purserumble_hasher_finish_and_reset(struct purserumble_ha
 {
     struct purserumble_loan l = purserumble_loan_at(loan);
     return purserumble_finish_and_reset(h->words, 5, h->pending, 64, h->state, 4, digest, 20,
-        l.table, l.table_words, l.masks, l.mask_count, answer, 2);
+        l.table, l.table_words, l.conditions, l.condition_words, l.masks, l.mask_count, answer, 2);
 }
 
-/* A whole message, with detection, mitigation and masks. answer: the verdict, the refused record's place. */
+/* A whole message, with detection, mitigation and the loan's masks. answer: the verdict, the refused record's place. */
 static inline uint32_t purserumble_message_digest(const void *bytes, size_t bytes_len, uint8_t digest[20],
     const struct purserumble_loan *loan, uint64_t answer[2])
 {
@@ -172,11 +186,18 @@ static inline uint32_t purserumble_block_words(const uint32_t words[5], const ui
     return purserumble_one_block(words, 5, block, 64, l.table, l.table_words, mask, mitigate, reduced, after, 5, answer, 4);
 }
 
-/* What is wrong with the loan's table. answer: 0, the refused record's place. */
+/* What is wrong with the loan's table of vectors; its conditions have a call of their own. answer: 0, the refused record's place. */
 static inline uint32_t purserumble_loan_fault(const struct purserumble_loan *loan, uint64_t answer[2])
 {
     struct purserumble_loan l = purserumble_loan_at(loan);
     return purserumble_table_fault(l.table, l.table_words, answer, 2);
+}
+
+/* What is wrong with the loan's conditions. answer: 0, the refused condition's place. */
+static inline uint32_t purserumble_loan_condition_fault(const struct purserumble_loan *loan, uint64_t answer[2])
+{
+    struct purserumble_loan l = purserumble_loan_at(loan);
+    return purserumble_condition_fault(l.conditions, l.condition_words, answer, 2);
 }
 
 /* part: the found digest's offset from the sheet's start, and its length, 20 or 0. */

@@ -1,13 +1,13 @@
-//! Stands as `ubc_check` in the oracle's build of the Rust: the table and the masks are lent by the caller.
-//! compress.rs walks `&SHA1_DVS` and asks `ubc_check` for a mask, as it does in the original.
-//!
-//! Being a child of the Rust's root, this module also sees its private parts; the methods at the end open
-//! them to the driver, so that neither lib.rs nor compress.rs needs a change.
+//! Stands as `ubc_check` in the oracle's build of the Rust: the table, and the masks or the conditions, are lent by the
+//! caller. compress.rs walks `&SHA1_DVS` and asks `ubc_check` for a mask, as it does in the original.
+
+#[path = "open.rs"]
+mod open;
 
 extern crate std;
-use crate::{Builder, DetectionState, Sha1};
-use core::sync::atomic::{AtomicPtr, AtomicUsize, Ordering::Relaxed};
-use shape::{Block, State};
+use crate::Sha1;
+use core::sync::atomic::{AtomicBool, AtomicPtr, AtomicUsize, Ordering::Relaxed};
+use shape::Block;
 use std::{collections::HashMap, sync::Mutex, vec::Vec};
 
 #[derive(Copy, Clone)]
@@ -46,6 +46,8 @@ static RECORDS: AtomicUsize = AtomicUsize::new(0);
 static MASKS: AtomicPtr<u32> = AtomicPtr::new(core::ptr::null_mut());
 static COUNT: AtomicUsize = AtomicUsize::new(0);
 static TAKEN: AtomicUsize = AtomicUsize::new(0);
+static CONDITIONS: Mutex<Vec<u32>> = Mutex::new(Vec::new());
+static CONDITIONAL: AtomicBool = AtomicBool::new(false);
 
 /// Stands for the constant table: a walk over the lent one.
 pub struct Dvs;
@@ -61,8 +63,20 @@ impl<'a> IntoIterator for &'a Dvs {
     }
 }
 
-/// The next lent mask. Asking for more than there are gives 0, and shows in `masks_taken`.
-pub fn ubc_check(_: &[u32; 80]) -> u32 {
+/// The bits that survive: all conditions that name them hold.
+fn surviving(w: &[u32; 80], conditions: &[u32]) -> u32 {
+    let bit = |i: u32, p: u32| w[i as usize] >> p & 1;
+    let holds = |c: &[u32]| bit(c[0], c[1]) ^ bit(c[2], c[3]) == c[4];
+    let survives = |n: &u32| conditions.chunks_exact(6).all(|c| c[5] >> n & 1 == 0 || holds(c));
+    (0..32).filter(survives).map(|n| 1 << n).sum()
+}
+
+/// What survives the lent conditions, else the next lent mask. Asking for more than there are gives 0, and shows in
+/// `masks_taken`.
+pub fn ubc_check(w: &[u32; 80]) -> u32 {
+    if CONDITIONAL.load(Relaxed) {
+        return surviving(w, &CONDITIONS.lock().unwrap());
+    }
     let i = TAKEN.load(Relaxed);
     TAKEN.store(i + 1, Relaxed);
     if i >= COUNT.load(Relaxed) {
@@ -95,6 +109,12 @@ impl Sha1 {
         TAKEN.store(0, Relaxed);
     }
 
+    /// Lends conditions in place of the masks, or none.
+    pub fn lend_conditions(conditions: Option<&[u32]>) {
+        CONDITIONAL.store(conditions.is_some(), Relaxed);
+        *CONDITIONS.lock().unwrap() = conditions.unwrap_or(&[]).to_vec();
+    }
+
     /// How many masks were asked for since they were lent.
     pub fn masks_taken() -> usize {
         TAKEN.load(Relaxed)
@@ -102,7 +122,7 @@ impl Sha1 {
 
     /// compress.rs on one block, from any five words, with the lent table and the first lent mask.
     pub fn one_block(words: [u32; 5], block: &[u8; 64], mitigate: bool, reduced: bool) -> Block {
-        let mut ctx = detection(true, mitigate, true, reduced).unwrap();
+        let mut ctx = open::detection(true, mitigate, true, reduced).unwrap();
         let mut words = words;
         TRIED.store(0, Relaxed);
         crate::compress::compress(&mut words, &mut ctx, core::slice::from_ref(block));
@@ -114,46 +134,6 @@ impl Sha1 {
             tried: TRIED.load(Relaxed),
         }
     }
-
-    /// A hasher in this state.
-    pub fn from_state(s: &State) -> Sha1 {
-        let mut detection = detection(s.detect, s.mitigate, s.lent, s.reduced);
-        if let Some(ctx) = &mut detection {
-            ctx.found_collision = s.mark;
-        }
-        let mut hasher = Sha1 { h: s.words, block_len: s.blocks, detection, buffer: Default::default() };
-        hasher.buffer.digest_blocks(&s.pending[..s.fill as usize], |_| unreachable!());
-        hasher
-    }
-
-    /// The state of a hasher. With detection off the Rust keeps no other flag, so `given` supplies them.
-    pub fn state(&self, given: &State) -> State {
-        let mut s = *given;
-        s.words = self.h;
-        s.blocks = self.block_len;
-        s.fill = self.buffer.get_pos() as u64;
-        // The Rust leaves old bytes behind the pending ones; nobody reads them, and the paper has zeros there.
-        s.pending = [0; 64];
-        s.pending[..self.buffer.get_pos()].copy_from_slice(self.buffer.get_data());
-        s.detect = self.detection.is_some();
-        s.mark = false;
-        if let Some(ctx) = &self.detection {
-            s.mark = ctx.found_collision;
-            s.mitigate = ctx.safe_hash;
-            s.lent = ctx.ubc_check;
-            s.reduced = ctx.reduced_round_collision;
-        }
-        s
-    }
-}
-
-fn detection(detect: bool, mitigate: bool, lent: bool, reduced: bool) -> Option<DetectionState> {
-    Builder::default()
-        .detect_collision(detect)
-        .safe_hash(mitigate)
-        .use_ubc(lent)
-        .reduced_round_collision(reduced)
-        .into_detection_state()
 }
 
 /// Only in the build for ends.rs, in whose copy of compress.rs two functions are made visible.

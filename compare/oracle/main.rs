@@ -1,11 +1,13 @@
 //! The oracle: answers a request file by the unchanged Rust. The layout of both files is in ../format.h.
 //!
+//! Built with `sha1_whole` it is the Rust as it ships, which is asked only with its own table and its own conditions.
+//!
 //! The Rust refuses nothing. Where a request lies outside of what it can be asked (a block that is not 64 bytes, a
 //! table that the Rust could not hold, masks too few or too many, a hasher that no call makes), the answer is
-//! `unknown`, and the hasher stays as it was. It has no table check and no sheet either.
+//! `unknown`, and the hasher stays as it was. It has no checks of tables and conditions and no sheet either.
 
 use digest::{FixedOutputReset, Reset, Update};
-use sha1_lent::{CollisionResult, Sha1};
+use rust::{CollisionResult, Sha1};
 use shape::State;
 use std::collections::HashMap;
 use std::io::Write;
@@ -62,16 +64,20 @@ impl Out {
         self.put(s.fill, 8);
         self.put(s.blocks, 8);
         self.put(s.mark as u64, 8);
-        self.put(s.detect as u64 + 2 * s.mitigate as u64 + 4 * s.lent as u64 + 8 * s.reduced as u64, 8);
+        let flags = [s.detect, s.mitigate, s.lent, s.reduced, s.conditions];
+        self.put(flags.iter().rev().fold(0, |n, flag| 2 * n + *flag as u64), 8);
     }
     fn zeros(&mut self, n: usize) {
         self.0.resize(self.0.len() + n, 0);
     }
 }
 
-/// Which slots hold a table that the Rust could have as its own.
+/// Which slots hold a table that the Rust could have as its own, and which hold conditions.
 #[derive(Default)]
-struct Tables(HashMap<u32, bool>);
+struct Tables {
+    tables: HashMap<u32, bool>,
+    conditions: HashMap<u32, Option<Vec<u32>>>,
+}
 
 impl Tables {
     fn set(&mut self, slot: u32, words: &[u32]) {
@@ -83,15 +89,24 @@ impl Tables {
                 let rule = |t: usize| dm[t] == (dm[t - 3] ^ dm[t - 8] ^ dm[t - 14] ^ dm[t - 16]).rotate_left(1);
                 r[0] < 32 && (r[1] == 58 || r[1] == 65) && (16..80).all(rule)
             });
-        self.0.insert(slot, good);
+        self.tables.insert(slot, good);
+        let there = |c: &[u32]| c[0].max(c[2]) < 80 && c[1].max(c[3]) < 32 && c[4] < 2;
+        let suit = words.len() % 6 == 0 && words.len() <= 6 * 512 && words.chunks(6).all(there);
+        self.conditions.insert(slot, suit.then(|| words.to_vec()));
         Sha1::set_table(slot, if good { words } else { &[] });
     }
     fn good(&self, slot: u32) -> bool {
-        *self.0.get(&slot).expect("no such table")
+        *self.tables.get(&slot).expect("no such table")
     }
-    /// Whether table and masks suit a call with these flags that compresses so many blocks.
-    fn suit(&self, s: &State, slot: u32, masks: &[u32], blocks: u64) -> bool {
-        !s.detect || (self.good(slot) && (!s.lent || masks.len() as u64 == blocks))
+    fn conditions(&self, slot: u32) -> Option<&[u32]> {
+        self.conditions.get(&slot).expect("no such conditions").as_deref()
+    }
+    /// Whether table, conditions and masks suit a call with these flags that compresses so many blocks.
+    fn suit(&self, s: &State, call: &Call, blocks: u64) -> bool {
+        !s.detect
+            || (self.good(call.slot)
+                && (!s.lent || call.masks.len() as u64 == blocks)
+                && (!s.conditions || self.conditions(call.conditions).is_some()))
     }
 }
 
@@ -101,6 +116,7 @@ fn one_block(mut body: In, tables: &Tables, o: &mut Out) {
         Ok(block) if tables.good(slot) => {
             let masks = [mask];
             Sha1::lend(slot, &masks);
+            Sha1::lend_conditions(None);
             let b = Sha1::one_block(words, block, flags & 2 != 0, flags & 8 != 0);
             o.known(astray(true, 1));
             o.put(b.mark as u64, 8);
@@ -135,7 +151,8 @@ fn hasher(body: &mut In) -> Option<State> {
         && blocks < 1 << 55
         && pending[fill as usize..].iter().all(|b| *b == 0)
         && mark <= flags & 1
-        && flags < 16;
+        && flags < 32
+        && flags & 20 != 20;
     let state = State {
         words,
         pending,
@@ -146,6 +163,7 @@ fn hasher(body: &mut In) -> Option<State> {
         mitigate: flag(2),
         lent: flag(4),
         reduced: flag(8),
+        conditions: flag(16),
     };
     real.then_some(state)
 }
@@ -154,6 +172,7 @@ fn hasher(body: &mut In) -> Option<State> {
 struct Call<'a> {
     what: u64,
     slot: u32,
+    conditions: u32,
     bytes: &'a [u8],
     masks: Vec<u32>,
     out_len: u32,
@@ -162,11 +181,11 @@ struct Call<'a> {
 impl<'a> Call<'a> {
     fn read(body: &mut In<'a>) -> Call<'a> {
         let what = body.number(1);
-        let slot = if what != 2 { body.word() } else { 0 };
+        let (slot, conditions) = if what != 2 { (body.word(), body.word()) } else { (0, 0) };
         let bytes = if what == 1 { body.bytes() } else { &[] };
         let masks = if what != 2 { body.masks() } else { vec![] };
         let (out_len, _) = if what == 4 { (body.word(), body.number(1)) } else { (20, 0) };
-        Call { what, slot, bytes, masks, out_len }
+        Call { what, slot, conditions, bytes, masks, out_len }
     }
     /// Whether the Rust can be asked: the paper has no refusal for it.
     fn suits(&self, s: &State, tables: &Tables) -> bool {
@@ -174,10 +193,10 @@ impl<'a> Call<'a> {
         match self.what {
             1 => {
                 more <= (1 << 61) - 1 - (s.blocks * 64 + s.fill)
-                    && tables.suit(s, self.slot, &self.masks, (s.fill + more) / 64)
+                    && tables.suit(s, self, (s.fill + more) / 64)
             }
             2 => true,
-            _ => self.out_len == 20 && tables.suit(s, self.slot, &self.masks, if s.fill < 56 { 1 } else { 2 }),
+            _ => self.out_len == 20 && tables.suit(s, self, if s.fill < 56 { 1 } else { 2 }),
         }
     }
     fn lend(&self) {
@@ -217,6 +236,8 @@ fn session(mut body: In, tables: &Tables, o: &mut Out) {
             o.zeros(1 + 4 + 16 + 116 + 4);
             continue;
         };
+        let looked_at = s.detect && s.conditions && call.what != 2;
+        Sha1::lend_conditions(if looked_at { tables.conditions(call.conditions) } else { None });
         let (said, out, wrong) = call.make(sha1);
         let wrong = wrong + astray(s.detect && s.lent && call.what != 2, call.masks.len());
         *s = sha1.state(s);
@@ -232,6 +253,7 @@ fn one_shot(mut body: In, tables: &Tables, o: &mut Out) {
     let (slot, bytes, masks) = (body.word(), body.bytes(), body.masks());
     if tables.good(slot) && masks.len() == (bytes.len() + 8) / 64 + 1 {
         Sha1::lend(slot, &masks);
+        Sha1::lend_conditions(None);
         let r = Sha1::try_digest(bytes);
         o.known(astray(true, masks.len()));
         o.put(verdict(&r), 8);
@@ -262,7 +284,7 @@ fn main() {
             2 => one_block(body, &tables, &mut o),
             3 => session(body, &tables, &mut o),
             4 => one_shot(body, &tables, &mut o),
-            5 => o.zeros(1 + 4 + 8),
+            5 | 8 => o.zeros(1 + 4 + 8),
             6 => o.zeros(1 + 4 + 16),
             7 => o.zeros(1 + 4 + 8),
             _ => panic!("no such request"),

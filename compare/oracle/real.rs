@@ -56,7 +56,7 @@ fn record(file: &mut impl Write, kind: u8, body: &[u8]) {
     file.write_all(body).unwrap();
 }
 
-/// A session of one update and one finish, each lent its share of the masks.
+/// A session of one update and one finish, each lent its share of the masks. The conditions, slot 0 too, are not looked at.
 fn session(flags: u64, message: &[u8], masks: &[u32]) -> Vec<u8> {
     let mut b = Vec::new();
     let word = |b: &mut Vec<u8>, x: u32| b.extend_from_slice(&x.to_be_bytes());
@@ -66,11 +66,13 @@ fn session(flags: u64, message: &[u8], masks: &[u32]) -> Vec<u8> {
     let (first, last) = masks.split_at(message.len() / 64);
     b.push(1);
     word(&mut b, 0);
+    word(&mut b, 0);
     word(&mut b, message.len() as u32);
     b.extend_from_slice(message);
     word(&mut b, first.len() as u32);
     first.iter().for_each(|x| word(&mut b, *x));
     b.push(3);
+    word(&mut b, 0);
     word(&mut b, 0);
     word(&mut b, last.len() as u32);
     last.iter().for_each(|x| word(&mut b, *x));

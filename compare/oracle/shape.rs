@@ -12,6 +12,7 @@ pub struct State {
     pub mitigate: bool,
     pub lent: bool,
     pub reduced: bool,
+    pub conditions: bool,
 }
 
 /// What one block gives.

@@ -1,9 +1,13 @@
-/* What a request file is made of: chance, the tables, the published files, and each call as it is written down. */
+/* What a request file is made of: chance, the tables, the conditions, the published files, and each call as it is written
+ * down. */
 #include "../format.h"
 #include "../../include/purserumble.h"
 
 enum { RECORD = 82, MOST = 32, MOST_WORDS = 40 * RECORD };
 enum { REAL, CONTROL, CONTROL_65, NO_TABLE, GOOD, GOOD_END = 40, BAD = GOOD_END, SLOTS = 64 };
+enum { CONDITION = 6, MOST_CONDITIONS = 512 };
+/* Slots of conditions: the crate's own, none, good ones and others. */
+enum { OWN = SLOTS, NONE, MET, MET_END = OWN + 24, UNFIT = MET_END, SLOTS_END = OWN + 32 };
 
 static FILE *file;
 static struct out o;
@@ -85,6 +89,39 @@ static void table_check(int slot)
     write_record(file, TABLE_CHECK, &o);
 }
 
+/* ---- Conditions ---- */
+
+struct conditions { uint32_t w[CONDITION * (MOST_CONDITIONS + 8)]; size_t len; int good; };
+static struct conditions conditions_in[SLOTS_END - OWN];
+
+/* The slot of those that are lent to the calls that follow. */
+static int lent_conditions = NONE;
+
+static struct conditions *held_conditions(int slot) { return &conditions_in[slot - OWN]; }
+static void send_conditions(int slot) { send_words(slot, held_conditions(slot)->w, held_conditions(slot)->len); }
+
+static void fixed_conditions(const char *name)
+{
+    struct conditions *own = held_conditions(OWN);
+    struct in in = whole_file(name);
+    if (in.left % (4 * CONDITION) || in.left > sizeof own->w) stop("not a table of conditions");
+    while (in.left) own->w[own->len++] = number(&in, 4);
+    own->good = held_conditions(NONE)->good = 1;
+    send_conditions(OWN);
+    send_conditions(NONE);
+}
+
+static void condition(uint32_t *c, uint32_t i, uint32_t p, uint32_t j, uint32_t q, uint32_t wanted, uint32_t clearing)
+{
+    memcpy(c, (uint32_t[]){ i, p, j, q, wanted, clearing }, 4 * CONDITION);
+}
+
+static void condition_check(int slot)
+{
+    put(&o, slot, 4);
+    write_record(file, CONDITION_CHECK, &o);
+}
+
 /* ---- Masks ---- */
 
 static uint32_t some_mask(const struct table *t)
@@ -144,13 +181,19 @@ static void add_pair(const uint32_t *words, const uint8_t *block, const uint32_t
     memcpy(p->record, record, 4 * RECORD);
 }
 
+/* The name of a file in a folder, until the next one is asked for. */
+static const char *in_folder(const char *folder, const char *file_name)
+{
+    static char name[4096];
+    snprintf(name, sizeof name, "%s/%s", folder, file_name);
+    return name;
+}
+
 static void read_published(const char *data)
 {
     static const char *names[3] = { "shattered-1.first320.bin", "shattered-2.first320.bin", "sha1_reducedsha_coll.bin" };
     for (int i = 0; i < 3; i++) {
-        char name[4096];
-        snprintf(name, sizeof name, "%s/%s", data, names[i]);
-        published[i] = whole_file(name);
+        published[i] = whole_file(in_folder(data, names[i]));
         uint32_t words[5] = { 0x67452301, 0xefcdab89, 0x98badcfe, 0x10325476, 0xc3d2e1f0 }, after[5];
         for (size_t at = 0; at + 64 <= published[i].left; at += 64, memcpy(words, after, 20)) {
             uint64_t answer[4];
@@ -177,7 +220,7 @@ static void begin(const uint32_t words[5], const uint8_t *pending, uint64_t fill
     held.fill = fill;
     held.blocks = blocks;
     held.flags = flags;
-    held.malformed = fill > 63 || blocks >> 55 || mark > (flags & DETECT) || flags > 15;
+    held.malformed = fill > 63 || blocks >> 55 || mark > (flags & DETECT) || flags > 31 || (flags & 20) == 20;
     for (uint64_t i = fill; i < 64; i++) held.malformed |= pending[i];
     put_words(&o, words, 5);
     put_raw(&o, pending, 64);
@@ -200,14 +243,22 @@ static int accepted(int slot, int right)
 {
     if (held.malformed) return 0;
     if (!(held.flags & DETECT)) return 1;
+    if ((held.flags & CONDITIONS) && !held_conditions(lent_conditions)->good) return 0;
     return pool[slot].good && (right || !(held.flags & LENT));
+}
+
+/* A call's kind and the tables that it is lent. */
+static void call(int what, int slot)
+{
+    put(&o, what, 1);
+    put(&o, slot, 4);
+    put(&o, lent_conditions, 4);
 }
 
 static void update(int slot, const uint8_t *bytes, size_t len, const uint32_t *same, int wrong)
 {
     uint64_t most = ((uint64_t)1 << 61) - 1;
-    put(&o, UPDATE, 1);
-    put(&o, slot, 4);
+    call(UPDATE, slot);
     put_bytes(&o, bytes, len);
     int right = lend_masks(slot, held.fill > 63 ? 0 : (held.fill + len) / 64, same, wrong);
     if (accepted(slot, right) && len <= most - (held.blocks * 64 + held.fill)) {
@@ -224,15 +275,13 @@ static void reset(void)
 
 static void finish(int slot, const uint32_t *same, int wrong)
 {
-    put(&o, FINISH, 1);
-    put(&o, slot, 4);
+    call(FINISH, slot);
     lend_masks(slot, held.fill <= 55 ? 1 : 2, same, wrong);
 }
 
 static void finish_and_reset(int slot, const uint32_t *same, int wrong, size_t out_len, uint8_t filled)
 {
-    put(&o, FINISH_AND_RESET, 1);
-    put(&o, slot, 4);
+    call(FINISH_AND_RESET, slot);
     int right = lend_masks(slot, held.fill <= 55 ? 1 : 2, same, wrong);
     put(&o, out_len, 4);
     put(&o, filled, 1);

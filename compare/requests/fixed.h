@@ -3,10 +3,11 @@
 static uint8_t pattern[1 << 20];
 static const uint32_t all = 0xffffffff, none = 0;
 
-/* A message in one piece, finished with every flag; each call is lent what the flags look at. */
-static void in_all_modes(int slot, const uint8_t *bytes, size_t len, const uint32_t *same)
+/* A message in one piece, finished with all flags that have these; each call is lent what the flags look at. */
+static void in_modes(int with, int slot, const uint8_t *bytes, size_t len, const uint32_t *same)
 {
-    for (int flags = 0; flags < 16; flags++) {
+    for (int flags = 0; flags < 32; flags++) {
+        if ((flags & 20) == 20 || (flags & with) != with) continue;
         begin_fresh(flags);
         update(slot, bytes, len, same, 0);
         finish(slot, same, 0);
@@ -14,6 +15,11 @@ static void in_all_modes(int slot, const uint8_t *bytes, size_t len, const uint3
         finish(slot, same, 0);
         end();
     }
+}
+
+static void in_all_modes(int slot, const uint8_t *bytes, size_t len, const uint32_t *same)
+{
+    in_modes(0, slot, bytes, len, same);
 }
 
 static void short_messages(void)
@@ -109,7 +115,7 @@ static void forms(void)
             end();
         }
     memset(pending, 0, 64);
-    for (int flags = 0; flags < 16; flags++)
+    for (int flags = 0; flags < 64; flags++)
         for (int way = 0; way < 4; way++) {
             uint64_t blocks = way == 0 ? (uint64_t)1 << 55 : way == 1 ? (uint64_t)-1 : 0;
             uint64_t fill = way == 2 ? 64 : 0;
@@ -128,7 +134,7 @@ static void longest(void)
 {
     uint32_t words[5] = { 1, 2, 3, 4, 5 };
     uint8_t pending[64] = { 0 };
-    for (int flags = 0; flags < 16; flags++)
+    for (int flags = 0; flags < 32; flags++)
         for (int fill = 0; fill < 64; fill++)
             for (uint64_t less = 0; less < 2; less++) {
                 memset(pending, 0, 64);
@@ -156,12 +162,14 @@ static void orders(void)
     pool[BAD].good = 0;
     pool[BAD].w[RECORD * 7] = 99;
     send_table(BAD);
-    for (int flags = 0; flags < 16; flags++)
+    two_unfit();
+    for (int flags = 0; flags < 32; flags++)
         for (int well = 0; well < 2; well++)
-            for (int slot = 0; slot < 3; slot++)
+            for (int slot = 0; slot < 9; slot++)
                 for (int wrong = -1; wrong < 2; wrong++)
                     for (int much = 0; much < 2; much++) {
-                        int lent = slot == 0 ? NO_TABLE : slot == 1 ? BAD : CONTROL;
+                        int lent = slot % 3 == 0 ? NO_TABLE : slot % 3 == 1 ? BAD : CONTROL;
+                        lent_conditions = slot / 3 == 0 ? UNFIT : slot / 3 == 1 ? UNFIT + 1 : NONE;
                         pending[63] = !well;
                         begin(words, pending, 10, ((uint64_t)1 << 55) - 1, 0, flags);
                         update(lent, pattern, much ? 54 : 53, NULL, wrong);
@@ -170,6 +178,7 @@ static void orders(void)
                         reset();
                         end();
                     }
+    lent_conditions = NONE;
     for (int slot = 0; slot < 3; slot++)
         for (int wrong = -1; wrong < 2; wrong++)
             for (int n = 0; n < 130; n++) {
@@ -280,12 +289,11 @@ static void published_files(void)
         }
 }
 
-/* NIST's short messages; their published digests are looked up by second/digests.py. */
-static void nist_messages(const char *data)
+/* NIST's short messages, in the modes that have these flags; their published digests are looked up by second/digests.py. */
+static void nist_messages(const char *data, int with)
 {
-    char name[4096], line[4096];
-    snprintf(name, sizeof name, "%s/SHA1ShortMsg.rsp", data);
-    FILE *f = fopen(name, "r");
+    char line[4096];
+    FILE *f = fopen(in_folder(data, "SHA1ShortMsg.rsp"), "r");
     if (!f) stop("cannot read SHA1ShortMsg.rsp");
     size_t bits = 0;
     while (fgets(line, sizeof line, f)) {
@@ -297,7 +305,7 @@ static void nist_messages(const char *data)
             sscanf(line + 6 + 2 * i, "%2x", &byte);
             bytes[i] = byte;
         }
-        in_all_modes(REAL, bytes, bits / 8, &all);
+        in_modes(with, REAL, bytes, bits / 8, &all);
     }
     fclose(f);
 }
@@ -314,7 +322,7 @@ static void schoolbook_messages(void)
 static void marks_stay(void)
 {
     for (int marked = 0; marked < 6; marked++)
-        for (int flags = 0; flags < 16; flags++)
+        for (int flags = 0; flags < 32; flags++)
             for (int slot = REAL; slot <= CONTROL_65; slot++) {
                 begin_fresh(flags | DETECT);
                 for (int i = 0; i < 6; i++) update(slot, pattern + 64 * i, 64, i == marked ? &all : &none, 0);
@@ -377,8 +385,9 @@ static void fixed_requests(const char *data)
     record_heads();
     pairs_of_faults();
     published_files();
-    nist_messages(data);
+    nist_messages(data, 0);
     schoolbook_messages();
     marks_stay();
     sheets();
+    conditions_in_full();
 }

@@ -75,6 +75,90 @@ static int some_slot(void)
     return one_in(12) ? (one_in(2) ? CONTROL : CONTROL_65) : GOOD + (int)below(GOOD_END - GOOD);
 }
 
+/* ---- Conditions ---- */
+
+/* With many conditions each names few vectors, or nothing would ever be left. */
+static uint32_t some_clearing(int many)
+{
+    switch (below(6)) {
+    case 0: return some_bit();
+    case 1: return one_in(4) ? 0 : 0xffffffff;
+    case 2: return many ? some_bit() : ~some_bit();
+    default: {
+        uint32_t mask = chance();
+        for (int n = many ? 3 : below(3); n > 0; n--) mask &= chance();
+        return mask;
+    }
+    }
+}
+
+static void some_condition(uint32_t *c, int many)
+{
+    uint32_t i = below(80), p = below(32), j = below(80), q = below(32), wanted = below(2);
+    if (one_in(8)) i = one_in(2) ? 79 : 0;
+    if (one_in(8)) j = one_in(2) ? 79 : i;
+    if (one_in(8)) p = one_in(2) ? 31 : 0;
+    if (one_in(8)) q = one_in(2) ? 31 : p;
+    condition(c, i, p, j, q, wanted, some_clearing(many));
+}
+
+static void some_conditions(struct conditions *t)
+{
+    int n = one_in(10) ? 0 : one_in(3) ? 1 : one_in(2) ? 2 + below(6) : one_in(8) ? MOST_CONDITIONS : 1 + below(60);
+    t->len = CONDITION * n;
+    t->good = 1;
+    for (int k = 0; k < n; k++) some_condition(t->w + CONDITION * k, n > 8);
+    if (n > 1 && one_in(4)) { /* one again, or asking for the opposite */
+        uint32_t *again = t->w + CONDITION * below(n);
+        memcpy(again, t->w + CONDITION * below(n), 4 * CONDITION);
+        if (one_in(2)) again[4] ^= 1;
+    }
+}
+
+/* One word of one condition beyond its bound, by little or by much. */
+static void spoil(struct conditions *t)
+{
+    static const uint32_t bounds[5] = { 80, 32, 80, 32, 2 };
+    int n = t->len / CONDITION, which = below(5);
+    uint32_t beyond = one_in(2) ? 0 : one_in(2) ? below(100) : chance() >> 33;
+    t->w[CONDITION * below(n) + which] = bounds[which] + beyond;
+}
+
+static void some_unfit_conditions(struct conditions *t)
+{
+    do some_conditions(t); while (t->len == 0);
+    t->good = 0;
+    int how = below(8);
+    if (how == 0 || how == 1) {
+        t->len += one_in(2) ? 1 + below(CONDITION - 1) : -1 - below(CONDITION - 1);
+    } else if (how == 2) {
+        t->len = CONDITION * (MOST_CONDITIONS + 1 + below(3));
+        for (size_t k = 0; k < t->len / CONDITION; k++) some_condition(t->w + CONDITION * k, 1);
+    }
+    if (how != 0 && how != 2 && t->len >= CONDITION)
+        for (int n = 1 + below(3); n > 0; n--) spoil(t);
+}
+
+static int some_conditions_slot(void)
+{
+    if (one_in(16)) return UNFIT + below(SLOTS_END - UNFIT);
+    return one_in(10) ? (one_in(2) ? OWN : NONE) : MET + (int)below(MET_END - MET);
+}
+
+static void next_conditions(void)
+{
+    int s = MET + below(MET_END - MET);
+    some_conditions(held_conditions(s));
+    send_conditions(s);
+}
+
+static void next_unfit_conditions(void)
+{
+    int s = UNFIT + below(SLOTS_END - UNFIT);
+    some_unfit_conditions(held_conditions(s));
+    send_conditions(s);
+}
+
 /* ---- One block ---- */
 
 static void some_words(uint32_t words[5])
@@ -160,7 +244,7 @@ static void some_hasher(int flags)
             case 4: mark = 1; flags &= ~DETECT; break;
             /* and as no hasher may lie in memory */
             case 5: mark = 2 + below(9); break;
-            default: flags |= 16 << below(8); break;
+            default: flags |= one_in(4) ? LENT | CONDITIONS : 32 << below(7); break;
             }
     }
     begin(words, pending, fill, blocks, mark, flags);
@@ -169,8 +253,9 @@ static void some_hasher(int flags)
 static void some_session(void)
 {
     static uint8_t bytes[4096];
-    int flags = below(16), slot = some_slot(), other;
+    int flags = below(16), slot = some_slot(), other, conditions = some_conditions_slot();
     if (!one_in(3)) flags |= DETECT;
+    if (one_in(2)) flags = (flags & ~LENT) | CONDITIONS;
     if (one_in(4)) some_hasher(flags);
     else begin_fresh(flags);
     const uint32_t all = 0xffffffff, none = 0, *same = one_in(3) ? &all : one_in(8) ? &none : NULL;
@@ -180,6 +265,7 @@ static void some_session(void)
             struct in in = published[below(3)];
             while (in.left) {
                 n = 1 + below(in.left);
+                lent_conditions = one_in(2) ? OWN : conditions;
                 update(REAL, take(&in, n), n, one_in(2) ? &all : NULL, 0);
             }
         } else {
@@ -187,10 +273,12 @@ static void some_session(void)
                 n = some_length();
                 fill_by_chance(bytes, n);
                 other = one_in(10) ? some_slot() : slot;
+                lent_conditions = one_in(10) ? some_conditions_slot() : conditions;
                 update(other, bytes, n, same, one_in(16) ? (one_in(2) ? 1 : -1) : 0);
             }
         }
         other = one_in(10) ? some_slot() : slot;
+        lent_conditions = one_in(10) ? some_conditions_slot() : conditions;
         int wrong = one_in(16) ? (one_in(2) ? 1 : -1) : 0;
         switch (below(5)) {
         case 0: case 1: finish(other, same, wrong); break;
@@ -200,6 +288,7 @@ static void some_session(void)
             finish_and_reset(other, same, wrong, n, chance());
         }
     }
+    lent_conditions = conditions;
     finish(slot, same, 0);
     end();
 }
@@ -248,6 +337,8 @@ static void random_requests(uint64_t blocks, uint64_t sessions, uint64_t others)
     static uint8_t bytes[4096];
     for (int i = GOOD; i < BAD; i++) { some_table(&pool[i]); send_table(i); }
     for (int i = BAD; i < SLOTS; i++) { some_bad_table(&pool[i]); send_table(i); }
+    for (int i = MET; i < MET_END; i++) { some_conditions(held_conditions(i)); send_conditions(i); }
+    for (int i = UNFIT; i < SLOTS_END; i++) { some_unfit_conditions(held_conditions(i)); send_conditions(i); }
     for (uint64_t i = 0; i < blocks;) {
         /* Tables are long, so each serves some hundred blocks. */
         if (i % 16 == 0) { int s = GOOD + below(GOOD_END - GOOD); some_table(&pool[s]); send_table(s); }
@@ -258,6 +349,8 @@ static void random_requests(uint64_t blocks, uint64_t sessions, uint64_t others)
     for (uint64_t i = 0; i < sessions; i++) {
         if (i % 8 == 0) { int s = GOOD + below(GOOD_END - GOOD); some_table(&pool[s]); send_table(s); }
         if (i % 32 == 0) { int s = BAD + below(SLOTS - BAD); some_bad_table(&pool[s]); send_table(s); }
+        if (i % 4 == 0) next_conditions();
+        if (i % 16 == 0) next_unfit_conditions();
         some_session();
     }
     for (uint64_t i = 0; i < others; i++) {
@@ -275,6 +368,8 @@ static void random_requests(uint64_t blocks, uint64_t sessions, uint64_t others)
             send_table(s);
             table_check(s);
             table_check(GOOD + below(GOOD_END - GOOD));
+            next_unfit_conditions();
+            for (int k = OWN; k < SLOTS_END; k += 1 + below(16)) condition_check(k);
         }
     }
 }

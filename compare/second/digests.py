@@ -42,7 +42,7 @@ def finishes(body, answer):
         at += 1
         piece = b""
         if call != 2:
-            at += 4
+            at += 8
             if call == 1:
                 n, = struct.unpack_from(">I", body, at)
                 piece = body[at + 4:at + 4 + n]

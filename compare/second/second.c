@@ -1,5 +1,5 @@
-/* The second program: SHA-1 with collision detection, the hasher and the barcode sheet, after FIPS 180-4 and the scope
- * paper, as the calls of purserumble.h. It is made to be plain, and to go another way than the Rust: a table of
+/* The second program: SHA-1 with collision detection, the hasher and the barcode sheet, after FIPS 180-4, the scope paper
+ * and the requests, as the calls of purserumble.h. It is made to be plain, and to go another way than the Rust: a table of
  * differences is tried by walking the block forward to the test step, undoing the sibling step by step to its start,
  * and compressing the sibling from there through all 80 steps. Nothing is saved between records, and a message goes
  * in byte by byte.
@@ -7,7 +7,7 @@
 #include "../../include/purserumble.h"
 #include <string.h>
 
-enum { RECORD = 82, MOST_RECORDS = 32 };
+enum { RECORD = 82, MOST_RECORDS = 32, CONDITION = 6, MOST_CONDITIONS = 512 };
 static const uint64_t most_blocks = ((uint64_t)1 << 55) - 1;
 static const uint64_t most_bytes = ((uint64_t)1 << 61) - 1;
 static const uint32_t first_words[5] = { 0x67452301, 0xefcdab89, 0x98badcfe, 0x10325476, 0xc3d2e1f0 };
@@ -133,7 +133,37 @@ static uint32_t table_fault(const uint32_t *table, size_t len, uint64_t *place)
     return 0;
 }
 
+/* ---- Conditions: i, p, j, q, the wanted value, the clearing mask ---- */
+
+static uint32_t condition_fault(const uint32_t *conditions, size_t len, uint64_t *place)
+{
+    *place = 0;
+    if (len % CONDITION != 0 || len > CONDITION * MOST_CONDITIONS) return 12;
+    for (size_t n = 0; n < len / CONDITION; n++) {
+        const uint32_t *c = conditions + CONDITION * n;
+        if (c[0] <= 79 && c[1] <= 31 && c[2] <= 79 && c[3] <= 31 && c[4] <= 1) continue;
+        *place = n;
+        return 13;
+    }
+    return 0;
+}
+
+static uint32_t bit(const uint32_t w[80], uint32_t t, uint32_t place) { return w[t] >> place & 1; }
+
+/* From all ones, without the vectors of each condition that the block's schedule does not meet. */
+static uint32_t surviving(const uint8_t *block, const uint32_t *conditions, size_t len)
+{
+    uint32_t w[80], left = 0xffffffff;
+    schedule(w, block);
+    for (const uint32_t *c = conditions; c < conditions + len; c += CONDITION)
+        if ((bit(w, c[0], c[1]) ^ bit(w, c[2], c[3])) != c[4]) left &= ~c[5];
+    return left;
+}
+
 /* ---- The hasher ---- */
+
+/* What is lent to a call. */
+struct loan { const uint32_t *table; size_t table_len; const uint32_t *conditions; size_t conditions_len; const uint32_t *masks; size_t masks_len; };
 
 struct hasher {
     uint32_t words[5];
@@ -162,6 +192,7 @@ static void store(const struct hasher *h, uint32_t *words, uint8_t *pending, uin
 static int detects(const struct hasher *h) { return h->flags & 1; }
 static int mitigates(const struct hasher *h) { return h->flags >> 1 & 1; }
 static int lends(const struct hasher *h) { return (h->flags & 5) == 5; }
+static int conditional(const struct hasher *h) { return (h->flags & 17) == 17; }
 static int reduces(const struct hasher *h) { return h->flags >> 3 & 1; }
 
 static struct hasher fresh(uint64_t flags)
@@ -179,12 +210,20 @@ static int well_formed(const struct hasher *h)
     return 1;
 }
 
-/* One block of the stream, with the next of the lent masks where they are looked at. */
-static void absorb(struct hasher *h, const uint8_t *block, const uint32_t *table, size_t table_len, const uint32_t **mask)
+/* The vectors that are tried with the next block: those of the next lent mask, those that survive, or all. */
+static uint32_t selected(const struct hasher *h, const uint8_t *block, struct loan *lent)
+{
+    if (lends(h)) return *lent->masks++;
+    if (conditional(h)) return surviving(block, lent->conditions, lent->conditions_len);
+    return 0xffffffff;
+}
+
+/* One block of the stream. */
+static void absorb(struct hasher *h, const uint8_t *block, struct loan *lent)
 {
     if (detects(h)) {
-        uint32_t chosen = lends(h) ? *(*mask)++ : 0xffffffff;
-        struct found found = checked_block(h->words, block, table, table_len, chosen, mitigates(h), reduces(h));
+        uint32_t chosen = selected(h, block, lent);
+        struct found found = checked_block(h->words, block, lent->table, lent->table_len, chosen, mitigates(h), reduces(h));
         if (found.mark) h->mark = 1;
     } else {
         uint32_t w[80];
@@ -193,13 +232,12 @@ static void absorb(struct hasher *h, const uint8_t *block, const uint32_t *table
     }
 }
 
-static void feed(struct hasher *h, const uint8_t *bytes, size_t len, const uint32_t *table, size_t table_len,
-    const uint32_t **mask)
+static void feed(struct hasher *h, const uint8_t *bytes, size_t len, struct loan *lent)
 {
     for (size_t i = 0; i < len; i++) {
         h->pending[h->fill++] = bytes[i];
         if (h->fill < 64) continue;
-        absorb(h, h->pending, table, table_len, mask);
+        absorb(h, h->pending, lent);
         h->blocks++;
         h->fill = 0;
         memset(h->pending, 0, 64);
@@ -208,13 +246,15 @@ static void feed(struct hasher *h, const uint8_t *bytes, size_t len, const uint3
 
 static uint64_t bytes_so_far(const struct hasher *h) { return h->blocks * 64 + h->fill; }
 
-/* What is refused of masks and table for a call that compresses so many blocks. */
-static uint32_t lent_refusal(const struct hasher *h, uint64_t blocks, const uint32_t *table, size_t table_len,
-    size_t masks_len, uint64_t *place)
+/* What is refused of a loan for a call that compresses so many blocks: masks or conditions, then the table. */
+static uint32_t lent_refusal(const struct hasher *h, uint64_t blocks, const struct loan *lent, uint64_t *place)
 {
+    uint32_t refusal = 0;
     *place = 0;
-    if (lends(h) && masks_len != blocks) return 6;
-    if (detects(h)) return table_fault(table, table_len, place);
+    if (lends(h) && lent->masks_len != blocks) return 6;
+    if (conditional(h)) refusal = condition_fault(lent->conditions, lent->conditions_len, place);
+    if (refusal) return refusal;
+    if (detects(h)) return table_fault(lent->table, lent->table_len, place);
     return 0;
 }
 
@@ -230,21 +270,20 @@ static int padding(const struct hasher *h, uint8_t tail[128])
     return blocks;
 }
 
-static uint32_t finish_refusal(const struct hasher *h, size_t out_len, const uint32_t *table, size_t table_len,
-    size_t masks_len, uint64_t *place)
+static uint32_t finish_refusal(const struct hasher *h, size_t out_len, const struct loan *lent, uint64_t *place)
 {
     *place = 0;
     if (!well_formed(h)) return 1;
     if (out_len != 20) return 8;
-    return lent_refusal(h, h->fill <= 55 ? 1 : 2, table, table_len, masks_len, place);
+    return lent_refusal(h, h->fill <= 55 ? 1 : 2, lent, place);
 }
 
 /* The verdict, and the digest's 20 bytes. */
-static uint64_t finished(struct hasher h, uint8_t *digest, const uint32_t *table, size_t table_len, const uint32_t *masks)
+static uint64_t finished(struct hasher h, uint8_t *digest, struct loan lent)
 {
     uint8_t tail[128];
     int blocks = padding(&h, tail);
-    for (int i = 0; i < blocks; i++) absorb(&h, tail + 64 * i, table, table_len, &masks);
+    for (int i = 0; i < blocks; i++) absorb(&h, tail + 64 * i, &lent);
     for (int i = 0; i < 20; i++) digest[i] = h.words[i / 4] >> (24 - 8 * (i % 4));
     return !h.mark ? 1 : mitigates(&h) ? 2 : 3;
 }
@@ -253,10 +292,13 @@ static uint64_t finished(struct hasher h, uint8_t *digest, const uint32_t *table
 
 enum { BROKEN = 255 };
 
+/* At most one of lent masks and conditions. */
+static int flags_fit(uint64_t flags) { return flags <= 31 && (flags & 20) != 20; }
+
 /* Whether a hasher lies in memory as the header says. */
 static int hasher_fits(size_t five, size_t sixty_four, const uint64_t *state, size_t four)
 {
-    return five == 5 && sixty_four == 64 && four == 4 && state[2] <= 1 && state[3] <= 15;
+    return five == 5 && sixty_four == 64 && four == 4 && state[2] <= 1 && flags_fit(state[3]);
 }
 
 uint32_t purserumble_one_block(const uint32_t *words, size_t five, const uint8_t *block, size_t block_len,
@@ -281,7 +323,7 @@ uint32_t purserumble_one_block(const uint32_t *words, size_t five, const uint8_t
 uint32_t purserumble_new(uint64_t flags, uint32_t *words, size_t five, uint8_t *pending, size_t sixty_four,
     uint64_t *state, size_t four)
 {
-    if (five != 5 || sixty_four != 64 || four != 4 || flags > 15) return BROKEN;
+    if (five != 5 || sixty_four != 64 || four != 4 || !flags_fit(flags)) return BROKEN;
     struct hasher h = fresh(flags);
     store(&h, words, pending, state);
     return 0;
@@ -289,17 +331,18 @@ uint32_t purserumble_new(uint64_t flags, uint32_t *words, size_t five, uint8_t *
 
 uint32_t purserumble_update(uint32_t *words, size_t five, uint8_t *pending, size_t sixty_four,
     uint64_t *state, size_t four, const uint8_t *bytes, size_t bytes_len, const uint32_t *table, size_t table_len,
-    const uint32_t *masks, size_t masks_len, uint64_t *answer, size_t two)
+    const uint32_t *conditions, size_t conditions_len, const uint32_t *masks, size_t masks_len, uint64_t *answer, size_t two)
 {
     if (!hasher_fits(five, sixty_four, state, four) || two != 2) return BROKEN;
     struct hasher h = hasher_of(words, pending, state);
+    struct loan lent = { table, table_len, conditions, conditions_len, masks, masks_len };
     uint32_t refusal;
     answer[0] = answer[1] = 0;
     if (!well_formed(&h)) refusal = 1;
     else if (bytes_len > most_bytes - bytes_so_far(&h)) refusal = 7;
-    else refusal = lent_refusal(&h, (h.fill + bytes_len) / 64, table, table_len, masks_len, &answer[1]);
+    else refusal = lent_refusal(&h, (h.fill + bytes_len) / 64, &lent, &answer[1]);
     if (refusal) return refusal;
-    feed(&h, bytes, bytes_len, table, table_len, &masks);
+    feed(&h, bytes, bytes_len, &lent);
     store(&h, words, pending, state);
     return 0;
 }
@@ -318,26 +361,28 @@ uint32_t purserumble_reset(uint32_t *words, size_t five, uint8_t *pending, size_
 
 uint32_t purserumble_finish(const uint32_t *words, size_t five, const uint8_t *pending, size_t sixty_four,
     const uint64_t *state, size_t four, uint8_t *digest, size_t digest_len, const uint32_t *table, size_t table_len,
-    const uint32_t *masks, size_t masks_len, uint64_t *answer, size_t two)
+    const uint32_t *conditions, size_t conditions_len, const uint32_t *masks, size_t masks_len, uint64_t *answer, size_t two)
 {
     if (!hasher_fits(five, sixty_four, state, four) || two != 2) return BROKEN;
     struct hasher h = hasher_of(words, pending, state);
+    struct loan lent = { table, table_len, conditions, conditions_len, masks, masks_len };
     answer[0] = 0;
-    uint32_t refusal = finish_refusal(&h, digest_len, table, table_len, masks_len, &answer[1]);
-    if (!refusal) answer[0] = finished(h, digest, table, table_len, masks);
+    uint32_t refusal = finish_refusal(&h, digest_len, &lent, &answer[1]);
+    if (!refusal) answer[0] = finished(h, digest, lent);
     return refusal;
 }
 
 uint32_t purserumble_finish_and_reset(uint32_t *words, size_t five, uint8_t *pending, size_t sixty_four,
     uint64_t *state, size_t four, uint8_t *out, size_t out_len, const uint32_t *table, size_t table_len,
-    const uint32_t *masks, size_t masks_len, uint64_t *answer, size_t two)
+    const uint32_t *conditions, size_t conditions_len, const uint32_t *masks, size_t masks_len, uint64_t *answer, size_t two)
 {
     if (!hasher_fits(five, sixty_four, state, four) || two != 2) return BROKEN;
     struct hasher h = hasher_of(words, pending, state);
+    struct loan lent = { table, table_len, conditions, conditions_len, masks, masks_len };
     answer[0] = 0;
-    uint32_t refusal = finish_refusal(&h, out_len, table, table_len, masks_len, &answer[1]);
+    uint32_t refusal = finish_refusal(&h, out_len, &lent, &answer[1]);
     if (refusal) return refusal;
-    answer[0] = finished(h, out, table, table_len, masks);
+    answer[0] = finished(h, out, lent);
     h = fresh(h.flags);
     store(&h, words, pending, state);
     return 0;
@@ -349,14 +394,15 @@ uint32_t purserumble_one_shot(const uint8_t *bytes, size_t bytes_len, uint8_t *d
     if (twenty != 20 || two != 2) return BROKEN;
     /* The defaults: detection, mitigation and masks on, reduced-round mode off. */
     struct hasher h = fresh(1 | 2 | 4);
+    struct loan lent = { table, table_len, NULL, 0, masks, masks_len };
     uint32_t refusal;
     answer[0] = answer[1] = 0;
     /* The message, the byte 80 and the 8 bytes of the length, rounded up to whole blocks. */
     if (bytes_len > most_bytes) refusal = 7;
-    else refusal = lent_refusal(&h, ((uint64_t)bytes_len + 1 + 8 + 63) / 64, table, table_len, masks_len, &answer[1]);
+    else refusal = lent_refusal(&h, ((uint64_t)bytes_len + 1 + 8 + 63) / 64, &lent, &answer[1]);
     if (refusal) return refusal;
-    feed(&h, bytes, bytes_len, table, table_len, &masks);
-    answer[0] = finished(h, digest, table, table_len, masks);
+    feed(&h, bytes, bytes_len, &lent);
+    answer[0] = finished(h, digest, lent);
     return 0;
 }
 
@@ -365,6 +411,13 @@ uint32_t purserumble_table_fault(const uint32_t *table, size_t table_len, uint64
     if (two != 2) return BROKEN;
     answer[0] = 0;
     return table_fault(table, table_len, &answer[1]);
+}
+
+uint32_t purserumble_condition_fault(const uint32_t *conditions, size_t conditions_len, uint64_t *answer, size_t two)
+{
+    if (two != 2) return BROKEN;
+    answer[0] = 0;
+    return condition_fault(conditions, conditions_len, &answer[1]);
 }
 
 /* ---- The sheet: records of a 12-byte barcode and a 20-byte digest ---- */

@@ -1,7 +1,7 @@
 //! How fast the proved code is beside the Rust: the same bytes in pieces of 64 KiB, the sides taking turns in one run,
 //! the best time of each kept. The bytes are written before the first round, so no side pays for fresh memory.
 //!
-//!   speed TABLE [MIB ROUNDS]
+//!   speed TABLE CONDITIONS [MIB ROUNDS]
 
 mod plain;
 
@@ -30,20 +30,22 @@ mod proved {
         fn purserumble_update(
             words: *mut u32, five: usize, pending: *mut u8, sixty_four: usize, state: *mut u64, four: usize,
             bytes: *const u8, bytes_len: usize, table: *const u32, table_len: usize,
-            masks: *const u32, masks_len: usize, answer: *mut u64, two: usize,
+            conditions: *const u32, conditions_len: usize, masks: *const u32, masks_len: usize, answer: *mut u64, two: usize,
         ) -> u32;
         fn purserumble_finish(
             words: *const u32, five: usize, pending: *const u8, sixty_four: usize, state: *const u64, four: usize,
             digest: *mut u8, twenty: usize, table: *const u32, table_len: usize,
-            masks: *const u32, masks_len: usize, answer: *mut u64, two: usize,
+            conditions: *const u32, conditions_len: usize, masks: *const u32, masks_len: usize, answer: *mut u64, two: usize,
         ) -> u32;
     }
 
-    /// The digest of the bytes; detection on where there is a table, masks off.
-    pub fn digest(bytes: &[u8], table: &[u32]) -> super::Digest {
+    /// The digest of the bytes; detection on where there is a table, selection by the conditions where there are any, else
+    /// masks off.
+    pub fn digest(bytes: &[u8], table: &[u32], conditions: &[u32]) -> super::Digest {
         let mut words = [0x67452301, 0xEFCDAB89, 0x98BADCFE, 0x10325476, 0xC3D2E1F0u32];
         let (mut pending, mut answer, mut digest) = ([0u8; 64], [0u64; 2], [0u8; 20]);
         let mut state = [0, 0, 0, if table.is_empty() { 0 } else { 1 | 2 }];
+        state[3] |= if conditions.is_empty() { 0 } else { 16 };
         let none = [0u32; 0];
         for piece in bytes.chunks(super::PIECE) {
             // SAFETY: every pointer comes with the length of what it points to.
@@ -51,7 +53,7 @@ mod proved {
                 purserumble_update(
                     words.as_mut_ptr(), 5, pending.as_mut_ptr(), 64, state.as_mut_ptr(), 4,
                     piece.as_ptr(), piece.len(), table.as_ptr(), table.len(),
-                    none.as_ptr(), 0, answer.as_mut_ptr(), 2,
+                    conditions.as_ptr(), conditions.len(), none.as_ptr(), 0, answer.as_mut_ptr(), 2,
                 )
             };
             assert_eq!(refusal, 0);
@@ -61,7 +63,7 @@ mod proved {
             purserumble_finish(
                 words.as_ptr(), 5, pending.as_ptr(), 64, state.as_ptr(), 4,
                 digest.as_mut_ptr(), 20, table.as_ptr(), table.len(),
-                none.as_ptr(), 0, answer.as_mut_ptr(), 2,
+                conditions.as_ptr(), conditions.len(), none.as_ptr(), 0, answer.as_mut_ptr(), 2,
             )
         };
         assert_eq!((refusal, answer[0]), (0, 1), "not the verdict ok");
@@ -75,11 +77,11 @@ fn plain(bytes: &[u8]) -> Digest {
     h.finish()
 }
 
-/// The Rust with detection, masks off; the table is compiled in.
+/// The Rust with detection, its own selection of vectors or masks off; the table is compiled in.
 macro_rules! checked {
-    ($rust:ident) => {
+    ($rust:ident, $own:expr) => {
         |bytes: &[u8]| {
-            let mut h = $rust::Sha1::builder().use_ubc(false).build();
+            let mut h = $rust::Sha1::builder().use_ubc($own).build();
             bytes.chunks(PIECE).for_each(|piece| digest::Update::update(&mut h, piece));
             let result = h.try_finalize();
             assert!(!result.has_collision());
@@ -106,12 +108,18 @@ fn measure(what: &str, bytes: &[u8], rounds: usize, sides: &[Side]) {
     }
 }
 
+/// The big-endian words of a file.
+fn words(name: &str) -> Vec<u32> {
+    let bytes = std::fs::read(name).expect("cannot read a table");
+    bytes.chunks(4).map(|w| u32::from_be_bytes(w.try_into().unwrap())).collect()
+}
+
 fn main() {
     let args: Vec<String> = std::env::args().collect();
-    let table = std::fs::read(args.get(1).expect("usage: speed TABLE [MIB ROUNDS]")).expect("cannot read the table");
-    let table: Vec<u32> = table.chunks(4).map(|w| u32::from_be_bytes(w.try_into().unwrap())).collect();
-    let size = |i: usize, otherwise: usize| args.get(i).map_or(otherwise, |a| a.parse().expect("a number"));
-    let (mib, rounds) = (size(2, 64), size(3, 7));
+    let [_, table, conditions, sizes @ ..] = &args[..] else { panic!("usage: speed TABLE CONDITIONS [MIB ROUNDS]") };
+    let (table, conditions) = (words(table), words(conditions));
+    let size = |i: usize, otherwise: usize| sizes.get(i).map_or(otherwise, |a| a.parse().expect("a number"));
+    let (mib, rounds) = (size(0, 64), size(1, 7));
     let mut seed = 1u64;
     let bytes: Vec<u8> = (0..mib << 20)
         .map(|_| {
@@ -121,16 +129,17 @@ fn main() {
         .collect();
 
     #[allow(unused_mut)]
-    let mut sides: [Vec<Side>; 3] = [
+    let mut sides: [Vec<Side>; 4] = [
         vec![("Rust", Box::new(plain))],
-        vec![("Rust", Box::new(checked!(sha1_one)))],
-        vec![("Rust", Box::new(checked!(sha1_real)))],
+        vec![("Rust", Box::new(checked!(sha1_one, false)))],
+        vec![("Rust", Box::new(checked!(sha1_real, true)))],
+        vec![("Rust", Box::new(checked!(sha1_real, false)))],
     ];
-    assert_eq!(table.len(), 32 * 82);
+    assert_eq!((table.len(), conditions.len()), (32 * 82, 156 * 6));
     #[cfg(proved)]
-    for (side, words) in sides.iter_mut().zip([0, 82, 32 * 82]) {
-        let table = &table[..words];
-        side.push(("proved", Box::new(move |bytes: &[u8]| proved::digest(bytes, table))));
+    for (side, (vectors, records)) in sides.iter_mut().zip([(0, 0), (1, 0), (32, 156), (32, 0)]) {
+        let (table, conditions) = (&table[..82 * vectors], &conditions[..6 * records]);
+        side.push(("proved", Box::new(move |bytes: &[u8]| proved::digest(bytes, table, conditions))));
     }
     println!("{mib} MiB in pieces of 64 KiB, best of {rounds}");
     if sides[0].len() == 1 {
@@ -138,5 +147,6 @@ fn main() {
     }
     measure("detection off", &bytes, rounds, &sides[0]);
     measure("detection on, 1 vector, masks off", &bytes, rounds, &sides[1]);
-    measure("detection on, 32 vectors, masks off", &bytes, rounds.min(3), &sides[2]);
+    measure("detection on, 32 vectors, 156 conditions", &bytes, rounds, &sides[2]);
+    measure("detection on, 32 vectors, masks off", &bytes, rounds.min(3), &sides[3]);
 }

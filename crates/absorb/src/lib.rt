@@ -2,7 +2,8 @@
 ghost use mathlib.Core.Path.{_≡_};
 ghost use Prim.Native.Nat.{_+_, _/_, _^_, _<_};
 ghost use lib.ListN.{length};
-ghost use Rattle.loan.specs.Loan.{loanOf};
+ghost use Rattle.conditions.specs.Good.{GoodConditions};
+ghost use Rattle.loan.specs.Loan.{loanOf, conditionsFor};
 ghost use Rattle.absorb.specs.Absorb.{advanced, absorbed};
 ghost use Rattle.absorb.specs.Ready.{Ready};
 use flags::Flags;
@@ -13,11 +14,19 @@ use stream::Chain;
 use stream::fold_blocks;
 
 // The whole blocks of s compressed straight from it, from the chain c on, and the rest left pending.
-fn advance(flags: Flags, table: &[u32], c: Chain, s: &[u8], masks: &[u32]) -> Hasher
+fn advance(
+    flags: Flags,
+    table: &[u32],
+    conditions: &[u32],
+    c: Chain,
+    s: &[u8],
+    masks: &[u32],
+) -> Hasher
     requires { ⌜ c .blocks + length (now s) / 64 < 2 ^ 64 ⌝ }
-    ensures { λ r. ⌜ r ≡ advanced flags (loanOf (now (table .entry)) (now (masks .entry))) c (now (s .entry)) ⌝ }
+    requires { ⌜ GoodConditions (conditionsFor flags (now conditions)) ⌝ }
+    ensures { λ r. ⌜ r ≡ advanced flags (loanOf (now (table .entry)) (now (conditions .entry)) (now (masks .entry))) c (now (s .entry)) ⌝ }
 {
-    let e = fold_blocks(flags, table, c, s, masks);
+    let e = fold_blocks(flags, table, conditions, c, s, masks);
     let at = 64 * (s.len() / 64);
     let left = s.len() - at;
     let mut pending = [0u8; 64];
@@ -26,15 +35,15 @@ fn advance(flags: Flags, table: &[u32], c: Chain, s: &[u8], masks: &[u32]) -> Ha
 }
 
 // The work of an update that is not refused. Only a partial block goes through the pending bytes.
-pub fn absorb(h: Hasher, bytes: &[u8], table: &[u32], masks: &[u32]) -> Hasher
-    requires { ⌜ Ready h (now bytes) ⌝ }
-    ensures { λ r. ⌜ r ≡ absorbed h (now (bytes .entry)) (loanOf (now (table .entry)) (now (masks .entry))) ⌝ }
+pub fn absorb(h: Hasher, bytes: &[u8], table: &[u32], conditions: &[u32], masks: &[u32]) -> Hasher
+    requires { ⌜ Ready h (now bytes) (now conditions) ⌝ }
+    ensures { λ r. ⌜ r ≡ absorbed h (now (bytes .entry)) (loanOf (now (table .entry)) (now (conditions .entry)) (now (masks .entry))) ⌝ }
 {
     let fill = h.fill;
     let flags = h.flags;
     let c = h.chain();
     if fill == 0 {
-        return advance(flags, table, c, bytes, masks);
+        return advance(flags, table, conditions, c, bytes, masks);
     }
     let mut pending = h.pending;
     let room = 64 - fill;
@@ -43,6 +52,13 @@ pub fn absorb(h: Hasher, bytes: &[u8], table: &[u32], masks: &[u32]) -> Hasher
         return Hasher::at(flags, c, pending, fill + bytes.len());
     }
     store(&mut pending, fill, bytes, room);
-    let first = fold_blocks(flags, table, c, &pending, masks);
-    advance(flags, table, first, &bytes[room..], masks_from(masks, 1))
+    let first = fold_blocks(flags, table, conditions, c, &pending, masks);
+    advance(
+        flags,
+        table,
+        conditions,
+        first,
+        &bytes[room..],
+        masks_from(masks, 1),
+    )
 }

@@ -7,7 +7,7 @@ use lib.Dec.{leb, eqb}
 use lib.ListN.{length, getD}
 use borrow.Author.Tests.{eqb-true, not-false}
 use Rattle.word.proofs.Tests.{both-true}
-use Rattle.layout.specs.Layout.{stateFits, hasherFits, newFits}
+use Rattle.layout.specs.Layout.{flagsKnown, stateFits, hasherFits, newFits}
 use Rattle.answers.proofs.Guards.{fit}
 
 -- the lengths that were asked for: of a hasher, and of a hasher and an answer
@@ -15,7 +15,7 @@ hasher-lengths : (w p : ℕ) (s : List ℕ) → hasherFits w p s ≡ true → (w
 hasher-lengths w p s h =
     let f = both-true (eqb w 5) (eqb p 64 && stateFits s) h in
     let g = both-true (eqb p 64) (stateFits s) (f .1) in
-    let k = both-true (eqb (length s) 4) (leb (getD s 2 0) 1 && leb (getD s 3 0) 15) (g .1) in
+    let k = both-true (eqb (length s) 4) (leb (getD s 2 0) 1 && flagsKnown (getD s 3 0)) (g .1) in
     (eqb-true w 5 (f .0), eqb-true p 64 (g .0), eqb-true (length s) 4 (k .0))
 
 pub lengths : (w p : ℕ) (s : List ℕ) (a : ℕ) {b : Bool} → b ≡ (hasherFits w p s && eqb a 2) → not b ≡ false
@@ -26,6 +26,6 @@ lengths w p s a e h =
 
 pub new-lengths : (w p s flags : ℕ) {b : Bool} → b ≡ newFits w p s flags → not b ≡ false → (w ≡ 5) × (p ≡ 64) × (s ≡ 4)
 new-lengths w p s flags {b} e h =
-    let f = both-true (eqb w 5) (eqb p 64 && (eqb s 4 && leb flags 15)) (sym e ∙ not-false b h) in
-    let g = both-true (eqb p 64) (eqb s 4 && leb flags 15) (f .1) in
-    (eqb-true w 5 (f .0), eqb-true p 64 (g .0), eqb-true s 4 (both-true (eqb s 4) (leb flags 15) (g .1) .0))
+    let f = both-true (eqb w 5) (eqb p 64 && (eqb s 4 && flagsKnown flags)) (sym e ∙ not-false b h) in
+    let g = both-true (eqb p 64) (eqb s 4 && flagsKnown flags) (f .1) in
+    (eqb-true w 5 (f .0), eqb-true p 64 (g .0), eqb-true s 4 (both-true (eqb s 4) (flagsKnown flags) (g .1) .0))

@@ -16,12 +16,13 @@ pub fn lane_update(
     lane: usize,
     bytes: &[u8],
     table: &[u32],
+    conditions: &[u32],
     masks: &[u32],
 ) -> Refusal
-    ensures { λ r. ⌜ (now (bench .exit) ≡ laneUpdated (now (bench .entry)) lane (now (bytes .entry)) (loanOf (now (table .entry)) (now (masks .entry)))) × (r ≡ laneUpdateRefusal (now (bench .entry)) lane (now (bytes .entry)) (loanOf (now (table .entry)) (now (masks .entry)))) ⌝ }
+    ensures { λ r. ⌜ (now (bench .exit) ≡ laneUpdated (now (bench .entry)) lane (now (bytes .entry)) (loanOf (now (table .entry)) (now (conditions .entry)) (now (masks .entry)))) × (r ≡ laneUpdateRefusal (now (bench .entry)) lane (now (bytes .entry)) (loanOf (now (table .entry)) (now (conditions .entry)) (now (masks .entry)))) ⌝ }
 {
     if has_lane(bench.len(), lane) {
-        let u = update(bench[lane], bytes, table, masks);
+        let u = update(bench[lane], bytes, table, conditions, masks);
         bench[lane] = u.hasher;
         return u.refusal;
     } else {
@@ -35,12 +36,13 @@ pub fn lane_finish(
     lane: usize,
     out: &mut [u8],
     table: &[u32],
+    conditions: &[u32],
     masks: &[u32],
 ) -> Outcome
-    ensures { λ r. ⌜ (now (bench .exit) ≡ laneFinished (now (bench .entry)) lane (now (out .entry)) (loanOf (now (table .entry)) (now (masks .entry)))) × (now (out .exit) ≡ laneWritten (now (bench .entry)) lane (now (out .entry)) (loanOf (now (table .entry)) (now (masks .entry)))) × (r ≡ laneOutcome (now (bench .entry)) lane (now (out .entry)) (loanOf (now (table .entry)) (now (masks .entry)))) ⌝ }
+    ensures { λ r. ⌜ (now (bench .exit) ≡ laneFinished (now (bench .entry)) lane (now (out .entry)) (loanOf (now (table .entry)) (now (conditions .entry)) (now (masks .entry)))) × (now (out .exit) ≡ laneWritten (now (bench .entry)) lane (now (out .entry)) (loanOf (now (table .entry)) (now (conditions .entry)) (now (masks .entry)))) × (r ≡ laneOutcome (now (bench .entry)) lane (now (out .entry)) (loanOf (now (table .entry)) (now (conditions .entry)) (now (masks .entry)))) ⌝ }
 {
     if has_lane(bench.len(), lane) {
-        let f = finish_and_reset(bench[lane], out, table, masks);
+        let f = finish_and_reset(bench[lane], out, table, conditions, masks);
         bench[lane] = f.hasher;
         return f.outcome;
     } else {

@@ -30,13 +30,14 @@ pub fn update_through(
     lane: usize,
     bytes: &[u8],
     table: &[u32],
+    conditions: &[u32],
     masks: &[u32],
 ) -> Benched
     requires { ⌜ count ≤ 17 ⌝ }
-    ensures { λ r. ⌜ r ≡ updatedThrough bench count lane (now (bytes .entry)) (loanOf (now (table .entry)) (now (masks .entry))) ⌝ }
+    ensures { λ r. ⌜ r ≡ updatedThrough bench count lane (now (bytes .entry)) (loanOf (now (table .entry)) (now (conditions .entry)) (now (masks .entry))) ⌝ }
 {
     let mut b = bench;
-    let refusal = lane_update(&mut b[..count], lane, bytes, table, masks);
+    let refusal = lane_update(&mut b[..count], lane, bytes, table, conditions, masks);
     Benched { refusal, bench: b }
 }
 
@@ -47,13 +48,14 @@ pub fn finish_through(
     lane: usize,
     out: &mut [u8],
     table: &[u32],
+    conditions: &[u32],
     masks: &[u32],
 ) -> BenchFinished
     requires { ⌜ count ≤ 17 ⌝ }
-    ensures { λ r. ⌜ (now (out .exit) ≡ writtenThrough bench count lane (now (out .entry)) (loanOf (now (table .entry)) (now (masks .entry)))) × (r ≡ finishedThrough bench count lane (now (out .entry)) (loanOf (now (table .entry)) (now (masks .entry)))) ⌝ }
+    ensures { λ r. ⌜ (now (out .exit) ≡ writtenThrough bench count lane (now (out .entry)) (loanOf (now (table .entry)) (now (conditions .entry)) (now (masks .entry)))) × (r ≡ finishedThrough bench count lane (now (out .entry)) (loanOf (now (table .entry)) (now (conditions .entry)) (now (masks .entry)))) ⌝ }
 {
     let mut b = bench;
-    let outcome = lane_finish(&mut b[..count], lane, out, table, masks);
+    let outcome = lane_finish(&mut b[..count], lane, out, table, conditions, masks);
     BenchFinished { outcome, bench: b }
 }
 

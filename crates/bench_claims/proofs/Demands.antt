@@ -14,7 +14,7 @@ use Rattle.loan.specs.Loan.{Tables}
 use Rattle.hasher.specs.declared.Hasher.{Hasher}
 use Rattle.finish.specs.declared.Outcome.{Outcome}
 use Rattle.finish.specs.declared.Outcome.the-variants.{Done}
-use Rattle.claims.specs.Sound.{TypedTables}
+use Rattle.claims.specs.Sound.{TypedVectors}
 use Rattle.claims.specs.Pieces.{Piece, bytesOf, hashed, loanOfAll, blockMasks, NoneRefused}
 use Rattle.claims.specs.Marked.{markedBy, sha1Marked, NoneMarked, OneMarked}
 use Rattle.claims.specs.Message.{OneMetIn, NoneMet, OneMet}
@@ -78,7 +78,7 @@ module _ (bench : List Hasher) (run : List LaneCall) (lane : ℕ) (f : Flags) (t
       ↔ (OneMarked f (loanOfAll t ps last) (bytesOf ps) × (f .mitigate ≡ false))
   lane-collision = same-outcome own-outcome (collision-exactly f t ps last own-none)
 
-  module _ (words : TypedTables t) (bytes : AllBytes (bytesOf ps)) where
+  module _ (words : TypedVectors t) (bytes : AllBytes (bytesOf ps)) where
     -- Demand 3 in any mode: the verdict goes by whether detection is on and a selected sibling meets one of the message's blocks, padding included.
     pub lane-met : VerdictBy (lastOutcome bench run lane out t last) (f .mitigate)
         ((f .detect ≡ true) × OneMetIn f (loanOfAll t ps last) initial (padded (bytesOf ps)))

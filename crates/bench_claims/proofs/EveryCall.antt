@@ -21,7 +21,7 @@ use Rattle.absorb.specs.Absorb.{streamOf}
 use Rattle.finish.specs.Finish.{finishRefusal, outcomeNumber, finishedReset}
 use Rattle.finish.specs.declared.Outcome.{Outcome}
 use Rattle.bench.specs.Bench.{laneOf, laneUpdateRefusal, laneUpdated, laneOutcome, laneFinished, laneResetRefusal, laneReset}
-use Rattle.claims.specs.Sound.{Typed, TypedTables}
+use Rattle.claims.specs.Sound.{Typed, TypedVectors}
 use Rattle.claims.specs.EveryCall.{MarkedAfter, lastBlocks, VerdictBy}
 use Rattle.claims.proofs.EveryCall.{update-met, finish-reset-met}
 use Rattle.claims.proofs.Kept.{update-flags}
@@ -33,7 +33,7 @@ use Rattle.bench_claims.proofs.Independence.{lane-alone}
 use Rattle.bench_claims.proofs.OwnMessage.{not-refused}
 
 -- no number but 0 is that of no refusal
-number-0 : (r : Refusal) → numberOf r ≡ 0 → r ≡ Nothing
+pub number-0 : (r : Refusal) → numberOf r ≡ 0 → r ≡ Nothing
 number-0 r e = nothing-is r (eq-eqb (numberOf r) 0 e)
 
 module _ (bench : List Hasher) (lane : ℕ) where
@@ -67,7 +67,7 @@ pub lane-flags : (bench : List Hasher) (run : List LaneCall) (lane : ℕ) → La
     → laneOf (runBench bench run) lane .flags ≡ laneOf bench lane .flags
 lane-flags bench run lane h = ap (λ (g : Hasher). g .flags) (lane-alone run bench lane h) ∙ calls-flags (ownCalls lane run) (laneOf bench lane)
 
-module _ (bench : List Hasher) (lane : ℕ) (l : Loan) (typed : Typed (laneOf bench lane)) (words : TypedTables (l .tables)) where
+module _ (bench : List Hasher) (lane : ℕ) (l : Loan) (typed : Typed (laneOf bench lane)) (words : TypedVectors (l .tables)) where
   -- An accepted update leaves a mark on its lane exactly when there was one or, with detection on, a selected sibling meets a block that it fills.
   pub lane-update-met : (bytes : List ℕ) → AllBytes bytes → numberOf (laneUpdateRefusal bench lane bytes l) ≡ 0
       → (laneOf (laneUpdated bench lane bytes l) lane .mark ≡ true) ↔ MarkedAfter (laneOf bench lane) l (streamOf (laneOf bench lane) bytes)

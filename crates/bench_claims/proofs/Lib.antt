@@ -5,6 +5,7 @@ pub mod Independence
 pub mod Order
 pub mod OwnMessage
 pub mod Demands
+pub mod Conditions
 pub mod Anywhere
 pub mod Several
 pub mod EveryCall

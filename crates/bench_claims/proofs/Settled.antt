@@ -25,14 +25,14 @@ use Rattle.bench_claims.specs.Promises.{LaneUpdates, LaneFinishes, LaneR
 
 -- What the contracts, which are proved by hand, say of the answer and of what is lent, at exit, is `LaneUpdates`, `LaneFinishes` and `LaneResets`.
 module _ {M : Type 1} (𝓤 : URA M) (H : Heap 𝓤) (A : Atoms 𝓤) (mem : Memory → SProp 𝓤) (run : Routine → Fun 𝓤) where
-  pub lane-update-says : (κs : Lfts 4) (a : Args lane-update.signature κs) (r : Res lane-update.signature κs) (e : AtExit lane-update.ended κs)
+  pub lane-update-says : (κs : Lfts 5) (a : Args lane-update.signature κs) (r : Res lane-update.signature κs) (e : AtExit lane-update.ended κs)
       → lane-update.clauses 𝓤 H A mem run κs a .ensures tt r e
-      ≡ fact 𝓤 (LaneUpdates (a .0 .now) (a .1 .0) (a .1 .1 .0 .now) (loanOf (a .1 .1 .1 .0 .now) (a .1 .1 .1 .1 .0 .now)) r (e .0 .now))
+      ≡ fact 𝓤 (LaneUpdates (a .0 .now) (a .1 .0) (a .1 .1 .0 .now) (loanOf (a .1 .1 .1 .0 .now) (a .1 .1 .1 .1 .0 .now) (a .1 .1 .1 .1 .1 .0 .now)) r (e .0 .now))
   lane-update-says κs a r e = refl
 
-  pub lane-finish-says : (κs : Lfts 4) (a : Args lane-finish.signature κs) (r : Res lane-finish.signature κs) (e : AtExit lane-finish.ended κs)
+  pub lane-finish-says : (κs : Lfts 5) (a : Args lane-finish.signature κs) (r : Res lane-finish.signature κs) (e : AtExit lane-finish.ended κs)
       → lane-finish.clauses 𝓤 H A mem run κs a .ensures tt r e
-      ≡ fact 𝓤 (LaneFinishes (a .0 .now) (a .1 .0) (a .1 .1 .0 .now) (loanOf (a .1 .1 .1 .0 .now) (a .1 .1 .1 .1 .0 .now)) r (e .0 .now) (e .1 .1 .0 .now))
+      ≡ fact 𝓤 (LaneFinishes (a .0 .now) (a .1 .0) (a .1 .1 .0 .now) (loanOf (a .1 .1 .1 .0 .now) (a .1 .1 .1 .1 .0 .now) (a .1 .1 .1 .1 .1 .0 .now)) r (e .0 .now) (e .1 .1 .0 .now))
   lane-finish-says κs a r e = refl
 
   pub lane-reset-says : (κs : Lfts 1) (a : Args lane-reset.signature κs) (r : Res lane-reset.signature κs) (e : AtExit lane-reset.ended κs)

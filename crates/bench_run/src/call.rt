@@ -61,8 +61,15 @@ fn told_end(row: Row, line: &[u8], f: BenchFinished, out: &[u8; 24]) -> Row
 }
 
 // An update of the lane that field 1 has.
-fn update_row(row: Row, line: &[u8], bytes: &[u8], table: &[u32], masks: &[u32]) -> Row
-    ensures { λ r. ⌜ r ≡ rowUpdated row (numberAt (now (line .entry)) 1) (now (bytes .entry)) (loanOf (now (table .entry)) (now (masks .entry))) ⌝ }
+fn update_row(
+    row: Row,
+    line: &[u8],
+    bytes: &[u8],
+    table: &[u32],
+    conditions: &[u32],
+    masks: &[u32],
+) -> Row
+    ensures { λ r. ⌜ r ≡ rowUpdated row (numberAt (now (line .entry)) 1) (now (bytes .entry)) (loanOf (now (table .entry)) (now (conditions .entry)) (now (masks .entry))) ⌝ }
 {
     let hashers = row.hashers;
     let b = update_through(
@@ -71,22 +78,28 @@ fn update_row(row: Row, line: &[u8], bytes: &[u8], table: &[u32], masks: &[u32])
         number_at(line, 1),
         bytes,
         table,
+        conditions,
         masks,
     );
     told(row, b"update ", line, b)
 }
 
-// A piece of a lane's message.
+// A piece of a lane's message. Field 9 has the conditions.
 pub(crate) fn play_update(row: Row, line: &[u8]) -> Row {
     let t = records_of(line);
     let lent = hex_words(line, 7);
     let run = run_at(line, 8);
+    let asked = hex_words(line, 9);
     let masks = lent.words;
     let bytes = run.bytes;
+    let conditions = asked.words;
     if !lent.good {
         return unplayed(row, line);
     }
     if !run.good {
+        return unplayed(row, line);
+    }
+    if !asked.good {
         return unplayed(row, line);
     }
     let table = front(&t, number_at(line, 6));
@@ -95,19 +108,25 @@ pub(crate) fn play_update(row: Row, line: &[u8]) -> Row {
         line,
         bytes_front(&bytes, run.len),
         table,
+        words_front(&conditions, asked.len),
         words_front(&masks, lent.len),
     )
 }
 
-// The output is the front of 24 bytes; field 8 has its size.
+// The output is the front of 24 bytes; field 8 has its size. Field 9 has the conditions.
 pub(crate) fn play_finish(row: Row, line: &[u8]) -> Row {
     let t = records_of(line);
     let lent = hex_words(line, 7);
+    let asked = hex_words(line, 9);
     let masks = lent.words;
+    let conditions = asked.words;
     let hashers = row.hashers;
     let size = number_at(line, 8);
     let mut out = [0xAAu8; 24];
     if !lent.good {
+        return unplayed(row, line);
+    }
+    if !asked.good {
         return unplayed(row, line);
     }
     if 24 < size {
@@ -119,6 +138,7 @@ pub(crate) fn play_finish(row: Row, line: &[u8]) -> Row {
         number_at(line, 1),
         &mut out[0..size],
         front(&t, number_at(line, 6)),
+        words_front(&conditions, asked.len),
         words_front(&masks, lent.len),
     );
     told_end(row, line, f, &out)

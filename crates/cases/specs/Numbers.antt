@@ -2,7 +2,9 @@
 use mathlib.Core.List.{List, [], _∷_}
 use Prim.Native.Nat.{ℕ, _+_, _*_, _/_, _%_}
 use lib.Dec.{eqb}
+use Rattle.word.specs.Choice.{pick}
 use Rattle.flags.specs.declared.Flags.{Flags}
+use Rattle.flags.specs.declared.Masks.the-variants.{Conditions}
 use Rattle.flags.specs.Flags.{masksOf}
 use Rattle.cases.specs.Lines.{fieldOf}
 
@@ -27,12 +29,12 @@ numberAt line i = decimalValue (fieldOf line i)
 abbrev pub wordField : List ℕ → ℕ → ℕ
 wordField line i = numberAt line i % 0x100000000
 
--- 1 detect, 2 mitigate, 4 masks lent, 8 reduced-round
+-- 1 detect, 2 mitigate, 4 masks lent, 8 reduced-round, 16 conditions, whatever the masks' bit is
 abbrev pub flagsOfBits : ℕ → Flags
 flagsOfBits bits =
     record {
       detect = eqb (bits % 2) 1;
       mitigate = eqb (bits / 2 % 2) 1;
-      masks = masksOf (eqb (bits / 4 % 2) 1);
+      masks = pick (eqb (bits / 16 % 2) 1) Conditions (masksOf (eqb (bits / 4 % 2) 1));
       reduced = eqb (bits / 8 % 2) 1;
     }

@@ -10,10 +10,12 @@ use detect::Mode;
 use flags::Flags;
 use printing::say;
 
-// Bytes in the longest text, and words in the longest table.
+// Bytes in the longest text, and words in the longest table and in the longest table of conditions.
 pub const MOST_TEXT: usize = 262144;
 
 pub const MOST_TABLE: usize = 2706;
+
+pub const MOST_CONDITION_WORDS: usize = 3078;
 
 // The first place of a byte, not before `from`; the end where there is none.
 fn find(s: &[u8], from: usize, b: u8) -> usize
@@ -152,15 +154,19 @@ pub fn word_field(line: &[u8], i: usize) -> u32
     (number_at(line, i) % 0x100000000) as u32
 }
 
-// The flags of four bits: 1 detect, 2 mitigate, 4 masks lent, 8 reduced-round.
+// The flags of five bits: 1 detect, 2 mitigate, 4 masks lent, 8 reduced-round, 16 conditions, whatever the masks' bit is.
 pub fn flags_of_bits(bits: usize) -> Flags
     ensures { λ r. ⌜ r ≡ flagsOfBits bits ⌝ }
 {
-    Flags::new()
+    let f = Flags::new()
         .detect_collision(bits % 2 == 1)
         .safe_hash(bits / 2 % 2 == 1)
         .use_ubc(bits / 4 % 2 == 1)
-        .reduced_round_collision(bits / 8 % 2 == 1)
+        .reduced_round_collision(bits / 8 % 2 == 1);
+    if bits / 16 % 2 == 1 {
+        return f.use_conditions(true);
+    }
+    f
 }
 
 // Of the flags' bits a block is told two: 2 mitigate, 8 reduced-round.
@@ -204,25 +210,54 @@ fn controls() -> [u32; MOST_TABLE]
     t
 }
 
-// The records with one word changed.
-fn with_record_word(t: [u32; MOST_TABLE], at: usize, x: u32) -> [u32; MOST_TABLE]
-    requires { ⌜ 2706 ≡ length t ⌝ }
-    ensures { λ r. ⌜ 2706 ≡ length r ⌝ }
+// 513 conditions, one more than a table of them may have. Each names one bit twice and wants it to differ from itself, so that it
+// drops the vectors with mask number 0 from every block.
+fn dropping() -> [u32; MOST_CONDITION_WORDS]
+    ensures { λ r. ⌜ 3078 ≡ length r ⌝ }
 {
-    let mut u = t;
-    if at < MOST_TABLE {
-        u[at] = x;
-        return u;
+    let mut t = [0u32; MOST_CONDITION_WORDS];
+    for k in 0..513 {
+        t[6 * k + 4] = 1;
+        t[6 * k + 5] = 1;
     }
     t
 }
 
-// 33 control records of which a case changes two words: fields 2 and 4 have their places, 3 and 5 the words.
+// One word changed, where there is one at the place.
+fn change(t: &mut [u32], at: usize, x: u32)
+    ensures { λ r. ⌜ length (now (t .exit)) ≡ length (now (t .entry)) ⌝ }
+{
+    if at < t.len() {
+        t[at] = x;
+    }
+}
+
+// Two words changed: fields i and i + 2 have their places, those behind them the words.
+fn change_two(t: &mut [u32], line: &[u8], i: usize)
+    requires { ⌜ i < 32 ⌝ }
+    ensures { λ r. ⌜ length (now (t .exit)) ≡ length (now (t .entry)) ⌝ }
+{
+    change(t, number_at(line, i), word_field(line, i + 1));
+    change(t, number_at(line, i + 2), word_field(line, i + 3));
+}
+
+// 33 control records of which a case changes two words, by fields 2 to 5.
 pub fn records_of(line: &[u8]) -> [u32; MOST_TABLE]
     ensures { λ r. ⌜ 2706 ≡ length r ⌝ }
 {
-    let t = with_record_word(controls(), number_at(line, 2), word_field(line, 3));
-    with_record_word(t, number_at(line, 4), word_field(line, 5))
+    let mut t = controls();
+    change_two(&mut t, line, 2);
+    t
+}
+
+// 513 conditions that drop mask number 0, of which a case changes two words, by the four fields from i on.
+pub fn conditions_of(line: &[u8], i: usize) -> [u32; MOST_CONDITION_WORDS]
+    requires { ⌜ i < 32 ⌝ }
+    ensures { λ r. ⌜ 3078 ≡ length r ⌝ }
+{
+    let mut t = dropping();
+    change_two(&mut t, line, i);
+    t
 }
 
 // Room for a text.

@@ -1,42 +1,39 @@
 -- Demand 2, not empty: every message of at most 2^61-1 bytes is taken, under every cut. Assumes nothing.
 use mathlib.Core.Path.{_≡_, refl, sym, _∙_}
-use mathlib.Core.Bool.{true, false, false≢true, and-false}
+use mathlib.Core.Bool.{Bool, true, false, _&&_, false≢true, and-false}
 use mathlib.Core.List.{List}
 use Prim.Native.Nat.{ℕ, _%_, _≤_}
 use native.Mathlib.Omega.{arith}
 use lib.ListN.{length}
-use Rattle.refusal.specs.declared.Refusal.{Refusal}
+use Rattle.word.proofs.Tests.{unless-true}
 use Rattle.refusal.specs.declared.Refusal.the-variants.{Nothing}
 use Rattle.verdict.specs.Verdict.{digestSize}
 use Rattle.verdict.specs.declared.Verdict.the-variants.{Ok}
-use Rattle.table.proofs.Good.{accepted}
-use Rattle.word.proofs.Tests.{of-either}
 use Rattle.fips.specs.Fips.{mostBytes, sha1}
 use Rattle.fips.specs.Tail.{tailBlocks}
-use Rattle.flags.specs.Flags.{usesMasks}
+use Rattle.flags.specs.Flags.{isLent, isConditions, usesMasks}
 use Rattle.flags.specs.declared.Flags.{Flags}
-use Rattle.flags.specs.declared.Masks.the-variants.{All}
-use Rattle.loan.specs.Loan.{Tables, lend, tablesRefusal}
-use Rattle.loan.proofs.Loans.{accepted-loan}
+use Rattle.flags.specs.declared.Masks.{Masks}
+use Rattle.flags.specs.declared.Masks.the-variants.{All, Conditions}
+use Rattle.loan.specs.Loan.{Tables, lend, tablesRefusal, VectorsPass, GoodTables}
+use Rattle.loan.proofs.Loans.{accepted-loan, good-tables}
 use Rattle.hasher.specs.Hasher.{freshOf}
 use Rattle.hasher.specs.declared.Hasher.{Hasher}
 use Rattle.finish.specs.declared.Finished.{Finished}
 use Rattle.finish.specs.declared.Outcome.{Outcome}
 use Rattle.finish.specs.declared.Outcome.the-variants.{Done}
 use Rattle.finish.proofs.Finishing.{finishing-finish}
-use Rattle.claims.specs.Sound.{TablesGood}
 use Rattle.claims.specs.Pieces.{Piece, bytesOf, taking, hashed, NoneRefused, InTurn}
 use Rattle.claims.proofs.Kept.{finish-keeps, fresh-sound, pieces-flags, pieces-sound}
 use Rattle.claims.proofs.Piecewise.{Fitting, pieces-pass}
 use Rattle.claims.proofs.Whole.{fill-is}
+use Rattle.claims.proofs.Cut.{cut-alike}
 use Rattle.claims.proofs.Fips.{fips-undetected}
 use Rattle.claims.proofs.Verdicts.{ok-exactly}
 
-tables-good : (f : Flags) (t : Tables) → TablesGood t → tablesRefusal f t ≡ Nothing
-tables-good f t good = of-either (λ (r : Refusal). r ≡ Nothing) (f .detect) _ Nothing (accepted (t .vectors) .1 good) refl
-
-unused : (f : Flags) → f .masks ≡ All → usesMasks f ≡ true → ⊥
-unused f off u = false≢true (sym (and-false (f .detect)) ∙ (rw off at u))
+-- what a setting does not ask for is not looked at
+unasked : (asks : Masks → Bool) (f : Flags) (masks : Masks) → asks masks ≡ false → f .masks ≡ masks → (f .detect && asks (f .masks)) ≡ true → ⊥
+unasked asks f masks off e u = false≢true (sym (and-false (f .detect)) ∙ (rw (e, off) at u))
 
 same-finished : (r : Finished) {o : Outcome} {d : List ℕ} {h : Hasher} → r .outcome ≡ o → r .digest ≡ d → r .hasher ≡ h
     → r ≡ record { outcome = o; digest = d; hasher = h }
@@ -66,13 +63,18 @@ module _ (f : Flags) (t : Tables) (ps : List Piece) (last : List ℕ) (short : l
   pub none-refused-off : f .detect ≡ false → NoneRefused f t ps last
   none-refused-off off = none-refused (rw off) (λ u. absurd (false≢true (rw off at u)))
 
-  -- With detection on none is, with good tables and each block's mask in its turn.
-  pub none-refused-on : TablesGood t → InTurn ps last → NoneRefused f t ps last
-  none-refused-on good turn = none-refused (tables-good f t good) (λ u. turn)
+  -- With detection on none is, with tables that are good where they are looked at and each block's mask in its turn.
+  pub none-refused-on : GoodTables f t → InTurn ps last → NoneRefused f t ps last
+  none-refused-on good turn = none-refused (good-tables f t good) (λ u. turn)
 
-  -- With masks off none is, with good tables.
-  pub none-refused-all : f .masks ≡ All → TablesGood t → NoneRefused f t ps last
-  none-refused-all off good = none-refused (tables-good f t good) (λ u. absurd (unused f off u))
+  -- With masks off none is, with vectors that are, whatever else is lent.
+  pub none-refused-all : f .masks ≡ All → VectorsPass f (t .vectors) → NoneRefused f t ps last
+  none-refused-all off good =
+      none-refused (good-tables f t (λ u. absurd (unasked isConditions f All refl off u), good)) (λ u. absurd (unasked isLent f All refl off u))
+
+  -- With conditions none is, with such tables, whatever masks are lent.
+  pub none-refused-conditions : f .masks ≡ Conditions → GoodTables f t → NoneRefused f t ps last
+  none-refused-conditions on good = none-refused (good-tables f t good) (λ u. absurd (unasked isLent f Conditions refl on u))
 
   -- With detection off the verdict is ok and the digest FIPS 180-4's, for every message of at most 2^61-1 bytes under every cut, whatever is lent.
   pub every-message : f .detect ≡ false
@@ -80,3 +82,11 @@ module _ (f : Flags) (t : Tables) (ps : List Piece) (last : List ℕ) (short : l
   every-message off =
       let ok = none-refused-off off in
       same-finished (hashed f t ps last) (ok-exactly f t ps last ok .1 (λ i l. rw off)) (fips-undetected f t ps last ok off) (finish-keeps _ (lend t last))
+
+-- With conditions every cut of a message of at most 2^61-1 bytes ends alike, with one table of conditions throughout and whatever masks are lent.
+pub every-cut-conditions : (f : Flags) (t : Tables) (ps qs : List Piece) (last rest : List ℕ) → f .masks ≡ Conditions → GoodTables f t
+    → length (bytesOf ps) ≤ mostBytes → bytesOf ps ≡ bytesOf qs
+    → (hashed f t ps last .outcome ≡ hashed f t qs rest .outcome) × (hashed f t ps last .digest ≡ hashed f t qs rest .digest)
+every-cut-conditions f t ps qs last rest on good short same =
+    let off : usesMasks f ≡ false = unless-true (usesMasks f) (λ u. unasked isLent f Conditions refl on u) in
+    cut-alike f t ps qs last rest (none-refused-conditions f t ps last short on good) (none-refused-conditions f t qs rest (rw (← same) short) on good) same (rw off)

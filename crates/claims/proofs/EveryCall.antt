@@ -35,7 +35,7 @@ use Rattle.one_shot.specs.Whole.{blocksOf, wholeRefusal, wholeChain, wholeOf, d
 use Rattle.one_shot.specs.declared.Digested.{Digested}
 use Rattle.one_shot.proofs.Fed.{refusal-whole}
 use Rattle.in_place.specs.InPlace.{InPlace}
-use Rattle.claims.specs.Sound.{Typed, TypedTables}
+use Rattle.claims.specs.Sound.{Typed, TypedVectors}
 use Rattle.claims.specs.Pieces.{Piece, bytesOf, hashed, loanOfAll, NoneRefused}
 use Rattle.claims.specs.Message.{OneMetIn}
 use Rattle.claims.specs.EveryCall.{MarkedAfter, lastBlocks, VerdictBy}
@@ -69,7 +69,7 @@ decided-by e v =
       collision = Iff·trans (v .collision) (Iff·and e Iff·rfl);
     }
 
-module _ (h : Hasher) (l : Loan) (typed : Typed h) (words : TypedTables (l .tables)) where
+module _ (h : Hasher) (l : Loan) (typed : Typed h) (words : TypedVectors (l .tables)) where
   -- An update that is not refused leaves a mark exactly when there was one or, with detection on, a selected sibling meets a block that it fills.
   pub update-met : (bytes : List ℕ) → AllBytes bytes → updated h bytes l .refusal ≡ Nothing
       → (updated h bytes l .hasher .mark ≡ true) ↔ MarkedAfter h l (streamOf h bytes)
@@ -108,7 +108,7 @@ module _ (h : Hasher) (l : Loan) (typed : Typed h) (words : TypedTables (l .tabl
   finish-reset-met size e = rw e (verdict-by (lastChain h l .mark) (h .flags .mitigate) (MarkedAfter h l (lastBlocks h)) (last-met size e))
 
 -- A whole message in one call does by whether detection is on and a selected sibling meets one of its blocks, padding included.
-pub whole-met : (f : Flags) (bytes : List ℕ) (l : Loan) → AllBytes bytes → TypedTables (l .tables) → wholeRefusal f (length bytes) l ≡ Nothing
+pub whole-met : (f : Flags) (bytes : List ℕ) (l : Loan) → AllBytes bytes → TypedVectors (l .tables) → wholeRefusal f (length bytes) l ≡ Nothing
     → VerdictBy (wholeOf f bytes l .outcome) (f .mitigate) ((f .detect ≡ true) × OneMetIn f l initial (padded bytes))
 unfolding wholeOf wholeChain
 whole-met f bytes l b words e =
@@ -118,12 +118,12 @@ whole-met f bytes l b words e =
     (same-mark (mark-then f l firstChain (padded bytes)) (some-met f l initial (padded bytes) initial-words (padded-bytes bytes b) words good)))
 
 -- So does the one-shot form, with detection and mitigation on.
-pub one-shot-met : (bytes : List ℕ) (l : Loan) → AllBytes bytes → TypedTables (l .tables) → wholeRefusal defaults (length bytes) l ≡ Nothing
+pub one-shot-met : (bytes : List ℕ) (l : Loan) → AllBytes bytes → TypedVectors (l .tables) → wholeRefusal defaults (length bytes) l ≡ Nothing
     → VerdictBy (digested bytes l .outcome) true (OneMetIn defaults l initial (padded bytes))
 one-shot-met bytes l b words e = decided-by (λ k. k .1, λ k. (refl, k)) (whole-met defaults bytes l b words e)
 
 -- So does a message under every cut, none of its calls refused.
-pub message-met : (f : Flags) (t : Tables) (ps : List Piece) (last : List ℕ) → AllBytes (bytesOf ps) → TypedTables t → NoneRefused f t ps last
+pub message-met : (f : Flags) (t : Tables) (ps : List Piece) (last : List ℕ) → AllBytes (bytesOf ps) → TypedVectors t → NoneRefused f t ps last
     → VerdictBy (hashed f t ps last .outcome) (f .mitigate) ((f .detect ≡ true) × OneMetIn f (loanOfAll t ps last) initial (padded (bytesOf ps)))
 message-met f t ps last b words ok =
     subst

@@ -3,6 +3,7 @@ pub mod BenchChecks
 pub mod Demand3
 pub mod OneBlock
 pub mod EveryCall
+pub mod Selected
 pub mod Siblings
 pub mod Control
 pub mod Abc
@@ -21,10 +22,13 @@ pub mod FinishReset
 pub mod Several
 pub mod Settled
 pub mod Unseen
+pub mod BothSettings
+pub mod SurvivingPieces
 pub mod OldCompare
 pub mod Audit
 -- the laws that they lean on
 pub mod Below
+pub mod Settings
 pub mod Blocks
 pub mod Unmarked
 pub mod Updates

@@ -9,14 +9,14 @@ use Rattle.word.proofs.Tests.{both-true, one-true}
 use Rattle.refusal.specs.declared.Refusal.the-variants.{Nothing}
 use Rattle.step.specs.Step.{Words}
 use Rattle.step.specs.declared.Regs.{Regs}
-use Rattle.table.proofs.Good.{accepted}
 use Rattle.detect.specs.Detect.{answerOf}
 use Rattle.flags.specs.declared.Flags.{Flags}
 use Rattle.loan.specs.Loan.{Loan, lookedAt, tablesRefusal}
+use Rattle.loan.proofs.Loans.{tables-good}
 use Rattle.stream.specs.Fold.{modeOf, folded}
 use Rattle.stream.specs.declared.Chain.{Chain}
-use Rattle.claims.specs.Sound.{TypedTables, TablesGood}
-use Rattle.claims.specs.Marked.{againBy, wholeBlocks, blockAt, maskFor, wordsAt, markedIn}
+use Rattle.claims.specs.Sound.{TypedVectors, VectorsGood}
+use Rattle.claims.specs.Marked.{againBy, wholeBlocks, blockAt, selectedAt, wordsAt, markedIn}
 use Rattle.claims.specs.Message.{MetInAt, OneMetIn}
 use Rattle.claims.proofs.Below.{anyBelow, some-below}
 use Rattle.claims.proofs.After.{mark-then}
@@ -27,16 +27,16 @@ use Rattle.claims.proofs.Demand3.{marked-in-exactly}
 pub with-detection : (on mark : Bool) (P : Type 0) → on ≡ true → (mark ≡ true) ↔ P → ((on && mark) ≡ true) ↔ P
 with-detection on mark P e m = (λ k. m .0 (both-true on mark k .1), λ p. rw e (m .1 p))
 
--- tables that are looked at and not refused are good
-pub looked-good : (f : Flags) (l : Loan) → tablesRefusal f (l .tables) ≡ Nothing → f .detect ≡ true → TablesGood (l .tables)
-looked-good f l fine on = accepted (l .tables .vectors) .0 (rw on at fine)
+-- vectors that are looked at and not refused are good
+pub looked-good : (f : Flags) (l : Loan) → tablesRefusal f (l .tables) ≡ Nothing → f .detect ≡ true → VectorsGood (l .tables)
+looked-good f l fine = tables-good f (l .tables) fine .1
 
-module _ (f : Flags) (l : Loan) (h : Regs) (xs : List ℕ) (hw : Words h) (bytes : AllBytes xs) (words : TypedTables (l .tables)) where
-  -- In any mode block i is marked exactly when a sibling that its mask selects meets it.
-  pub marked-in-at : f .detect ≡ true → TablesGood (l .tables) → (i : ℕ) → (markedIn f l h xs i ≡ true) ↔ MetInAt f l h xs i
+module _ (f : Flags) (l : Loan) (h : Regs) (xs : List ℕ) (hw : Words h) (bytes : AllBytes xs) (words : TypedVectors (l .tables)) where
+  -- In any mode block i is marked exactly when a sibling that is selected for it meets it.
+  pub marked-in-at : f .detect ≡ true → VectorsGood (l .tables) → (i : ℕ) → (markedIn f l h xs i ≡ true) ↔ MetInAt f l h xs i
   marked-in-at on good i =
       let w = wordsAt f l h xs i in
-      let mask = maskFor (lookedAt f (l .masks)) i in
+      let mask = selectedAt f l xs i in
       with-detection (f .detect) (answerOf (modeOf f) (l .tables .vectors) w (blockAt xs i) mask .found .mark) (MetInAt f l h xs i) on
       (marked-in-exactly w (blockAt xs i) (l .tables .vectors) (hash-words (againBy f (l .tables)) i h xs (lookedAt f (l .masks)) hw) (block-bytes xs i bytes) words (modeOf f) mask good)
 
@@ -53,7 +53,7 @@ module _ (f : Flags) (l : Loan) (h : Regs) (xs : List ℕ) (hw : Words h) (bytes
   )
 
 -- the mark after the blocks of a call: it was there or, with detection on, one of them is met
-pub folded-met : (f : Flags) (l : Loan) (c : Chain) (xs : List ℕ) → Words (c .words) → AllBytes xs → TypedTables (l .tables)
+pub folded-met : (f : Flags) (l : Loan) (c : Chain) (xs : List ℕ) → Words (c .words) → AllBytes xs → TypedVectors (l .tables)
     → tablesRefusal f (l .tables) ≡ Nothing
     → (folded f l c xs .mark ≡ true) ↔ ((c .mark ≡ true) ⊎ ((f .detect ≡ true) × OneMetIn f l (c .words) xs))
 folded-met f l c xs hw bytes words fine =

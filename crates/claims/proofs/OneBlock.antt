@@ -2,12 +2,9 @@
 use mathlib.Core.Path.{_≡_, refl, sym, ap, ap₂, _∙_}
 use mathlib.Core.Bool.{Bool, true, false, and-false, false≢true}
 use mathlib.Core.List.{List}
-use Prim.Native.Nat.{ℕ, _%_, _≤_, _<_}
-use native.Mathlib.Nat.{div-eq-of-lt}
+use Prim.Native.Nat.{ℕ, _≤_, _<_}
 use lib.Bits.{bitXor, xor-zero-r}
-use lib.Dec.{eqb}
 use lib.ListN.{length, replicate, getD-replicate}
-use lib.Pow.{pow-pos}
 use Rattle.word.proofs.Fill.{list-same}
 use Rattle.refusal.specs.Refusal.{isNothing}
 use Rattle.refusal.specs.declared.Refusal.the-variants.{Nothing}
@@ -20,13 +17,14 @@ use Rattle.block.specs.Compress.{overSchedule, compressOf}
 use Rattle.sibling.specs.Sibling.{siblingSchedule, recompressed}
 use Rattle.block.proofs.Growth.{word, schedule-list, schedule-at}
 use Rattle.table.specs.Limits.{dmWords}
-use Rattle.table.specs.Table.{recordsIn, maskNumberAt, dmAt}
-use Rattle.search.specs.Marks.{hasBit, selects, stepsBeforeAt, siblingEnds, marks, foundIn}
+use Rattle.table.specs.Table.{recordsIn, dmAt}
+use Rattle.search.specs.Marks.{selects, stepsBeforeAt, siblingEnds, marks, foundIn}
 use Rattle.detect.specs.Detect.{answerOf, oneBlockRefusal, refusedBlock, answeredBlock, oneBlockOf}
 use Rattle.detect.specs.declared.Mode.{Mode}
 use Rattle.detect.specs.declared.OneBlock.{OneBlock}
+use Rattle.detect.proofs.Selection.{none-selected}
 use Rattle.search.specs.Ended.{Ended}
-use Rattle.search.proofs.Ended.{found-ended, some-marked, none-tried}
+use Rattle.search.proofs.Ended.{found-ended, some-marked}
 use Rattle.refusal.proofs.Passed.{of-refusal}
 
 module _ (mode : Mode) (table : List ℕ) (h : Regs) (block : List ℕ) (mask : ℕ) where
@@ -51,15 +49,11 @@ module _ (mode : Mode) (table : List ℕ) (h : Regs) (block : List ℕ) (mask : 
   unfolding answerOf compressOf
   words-mitigated m e = rw (e, m)
 
-no-bits : (k : ℕ) → hasBit 0 k ≡ false
-no-bits k = ap (λ (q : ℕ). eqb (q % 2) 1) (div-eq-of-lt (pow-pos k))
-
 -- mask 0 tries nothing, in any mode
 pub mask-zero : (mode : Mode) (table : List ℕ) (h : Regs) (block : List ℕ)
     → answerOf mode table h block 0 .found ≡ record { mark = false; place = 0; tried = 0 }
-unfolding answerOf foundIn
-mask-zero mode table h block =
-    none-tried (selects 0 table) (marks (mode .reduced) h (scheduleOf (wordsOf block)) table) (λ j. no-bits (maskNumberAt table j)) (recordsIn (length table)) 0 0
+unfolding answerOf
+mask-zero mode table h block = none-selected (mode .reduced) table h (scheduleOf (wordsOf block))
 
 -- an entry that refuses nothing gives the answer
 pub block-answered : (five block table : List ℕ) (mask : ℕ) (mode : Mode) → oneBlockOf five block table mask mode .refusal ≡ Nothing

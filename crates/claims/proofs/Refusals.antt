@@ -1,19 +1,20 @@
 -- 01's table of numbers, line by line: for each entry point, each number is given exactly when the table says so, in the
--- order of 01, and no other number; and then nothing has changed. What is refused of a loan, 6 and the table's numbers, is said once, in
--- loan/proofs/Loans (`loan-0`, `-6`, `-table`, `-gives`, `-only`): here it stands behind the tests of each call. Lines 2 to 5 are those
--- of the table's check, `tableFault`: `is-2` of table/proofs/Faults, `line-3`, `-4` and `-5` of table/proofs/Lines. Assumes nothing.
+-- order of 01 with 02's request d, and no other number; and then nothing has changed. What is refused of a loan, 6 and the numbers of the
+-- tables, is said once, in loan/proofs/Loans (`loan-0`, `-6`, `-conditions`, `-table`, `-gives`, `-only`): here it stands behind the tests
+-- of each call. Lines 2 to 5 are those of the table's check, `tableFault`: `is-2` of table/proofs/Faults, `line-3`, `-4` and `-5` of
+-- table/proofs/Lines. Lines 12 and 13 are those of `conditionFault`: `conditions-12` and `-13` of conditions/proofs/Faults. Assumes nothing.
 use mathlib.Core.Path.{_≡_, refl, sym, ap, _∙_, subst}
-use mathlib.Core.Logic.{_↔_, Iff·rfl, Iff·trans, Iff·and}
-use mathlib.Core.Bool.{Bool, true, false, not, or-true}
+use mathlib.Core.Logic.{_↔_, Iff·rfl, Iff·trans, Iff·and, ⊎-elim}
+use mathlib.Core.Bool.{Bool, true, false, not, _&&_, _||_, or-true, true≢false, false≢true}
 use mathlib.Core.List.{List, [], _∷_}
 use Prim.Native.Nat.{ℕ, _+_, _≤_, _<_}
 use native.Mathlib.Omega.{arith}
-use borrow.Author.Tests.{eq-eqb, ne-eqb}
+use borrow.Author.Tests.{eqb-true, eq-eqb, ne-eqb}
 use lib.Dec.{eqb}
 use lib.ListN.{length, replicate}
 use Rattle.word.specs.Choice.{pick}
-use Rattle.word.proofs.Tests.{of-either}
-use Rattle.refusal.specs.Refusal.{numberOf, isNothing, tableNumbers, oneOf}
+use Rattle.word.proofs.Tests.{both-true, one-true, of-either}
+use Rattle.refusal.specs.Refusal.{numberOf, isNothing, tableNumbers, conditionNumbers, placedNumbers, oneOf}
 use Rattle.refusal.specs.declared.Refusal.{Refusal}
 use Rattle.refusal.specs.declared.Refusal.the-variants.{Nothing, HasherForm, MessageLength, Size}
 use Rattle.refusal.proofs.Chains.{Decides, decided, negated, less, equal, first-exactly, inside-exactly, last-exactly, inside-is, place-none}
@@ -25,15 +26,17 @@ use Rattle.table.specs.Table.{tableFault}
 use Rattle.table.specs.Good.{GoodTable}
 use Rattle.table.proofs.Faults.{fault-numbers}
 use Rattle.table.proofs.Good.{table-0}
+use Rattle.conditions.specs.Conditions.{conditionFault}
+use Rattle.conditions.specs.Good.{GoodConditions}
 use Rattle.detect.specs.Detect.{oneBlockRefusal, oneBlockOf, refusedBlock}
 use Rattle.detect.specs.declared.Mode.{Mode}
 use Rattle.detect.specs.declared.OneBlock.{OneBlock}
 use Rattle.fips.specs.Fips.{mostBytes}
 use Rattle.fips.specs.Tail.{tailBlocks}
-use Rattle.flags.specs.Flags.{defaults}
+use Rattle.flags.specs.Flags.{usesConditions, defaults}
 use Rattle.flags.specs.declared.Flags.{Flags}
-use Rattle.loan.specs.Loan.{Loan, loanRefusal, loanNumbers, WellCounted, Miscounted, VectorsGive, GoodLoan}
-use Rattle.loan.proofs.Loans.{loan-0, loan-6, loan-table, loan-gives, loan-only}
+use Rattle.loan.specs.Loan.{Tables, Loan, loanRefusal, loanNumbers, WellCounted, Miscounted, ConditionsPass, ConditionsGive, VectorsGive, GoodLoan}
+use Rattle.loan.proofs.Loans.{loan-0, loan-6, loan-conditions, loan-table, loan-gives, loan-gives-conditions, loan-only, one-setting}
 use Rattle.hasher.specs.Hasher.{wellFormed, taken, freshOf, resetOf}
 use Rattle.hasher.specs.declared.Hasher.{Hasher}
 use Rattle.hasher.specs.declared.Updated.{Updated}
@@ -56,6 +59,32 @@ form-decides h = negated (well-decides h)
 -- a number of the table is one that a loan can give
 of-table : (n : ℕ) → oneOf tableNumbers n ≡ true → oneOf (0 ∷ loanNumbers) n ≡ true
 of-table n = within (0 ∷ loanNumbers) tableNumbers n refl
+
+-- so is one of the conditions
+of-conditions : (n : ℕ) → oneOf conditionNumbers n ≡ true → oneOf (0 ∷ loanNumbers) n ≡ true
+of-conditions n = within (0 ∷ loanNumbers) conditionNumbers n refl
+
+-- each number of the third list is in one of the first two
+abbrev eachIn : List ℕ → List ℕ → List ℕ → Bool
+eachIn l k [] = true
+eachIn l k (x ∷ xs) = (oneOf l x || oneOf k x) && eachIn l k xs
+
+-- so what is in the third and not in the second is in the first
+without : (l k m : List ℕ) (n : ℕ) → eachIn l k m ≡ true → oneOf m n ≡ true → (oneOf k n ≡ true → ⊥) → oneOf l n ≡ true
+without l k [] n a o out = absurd (false≢true o)
+without l k (x ∷ xs) n a o out =
+    let b = both-true (oneOf l x || oneOf k x) _ a in
+    ⊎-elim
+    (λ e. ⊎-elim (λ i. i) (λ i. absurd (out i)) (one-true (oneOf l n) (oneOf k n) (rw (eqb-true x n e) at (b .0))))
+    (λ e. without l k xs n (b .1) e out)
+    (one-true (eqb x n) _ o)
+
+-- flags that look at conditions never give 6, and those that do not neither 12 nor 13
+never-6 : (f : Flags) (l : Loan) (blocks : ℕ) → usesConditions f ≡ true → Miscounted f l blocks → ⊥
+never-6 f l blocks u m = one-setting f u (m .0)
+
+never-given : (f : Flags) (t : Tables) (n : ℕ) → usesConditions f ≡ false → ConditionsGive f t n → ⊥
+never-given f t n off g = true≢false (sym (g .0) ∙ off)
 
 -- what each line of the table says of the refusal r of a call that refuses 1, then by a test of its own, then of its loan
 record Lines (r : Refusal) (h : Hasher) (own : ℕ) (P Q : Type 0) (l : Loan) (blocks : ℕ) : Type 1 where
@@ -136,10 +165,27 @@ module _ (h : Hasher) (bytes : List ℕ) (l : Loan) where
       × (WellCounted (h .flags) l (blocksFilled h (length bytes)) × VectorsGive (h .flags) (l .tables) n)))
   update-table n t = update-lines .at-loan n _ (of-table n t) (loan-table (h .flags) l (blocksFilled h (length bytes)) n t)
 
-  -- where the table is looked at, what is wrong with it is what is given, number and place
+  -- 12 and 13, where 6 would stand
+  pub update-conditions : (n : ℕ) → oneOf conditionNumbers n ≡ true → (numberOf (updated h bytes l .refusal) ≡ n)
+      ↔ (WellFormed h × ((taken h + length bytes ≤ mostBytes) × ConditionsGive (h .flags) (l .tables) n))
+  update-conditions n i = update-lines .at-loan n _ (of-conditions n i) (loan-conditions (h .flags) l (blocksFilled h (length bytes)) n i)
+
+  -- where the conditions are looked at and bad, what is wrong with them is what is given, number and place
+  pub update-gives-conditions : WellFormed h → taken h + length bytes ≤ mostBytes → usesConditions (h .flags) ≡ true
+      → (GoodConditions (l .tables .conditions) → ⊥) → updated h bytes l .refusal ≡ conditionFault (l .tables .conditions)
+  update-gives-conditions w q u b = update-lines .is w q ∙ loan-gives-conditions (h .flags) l (blocksFilled h (length bytes)) u b
+
+  -- where the table is looked at and the conditions pass, what is wrong with it is what is given, number and place
   pub update-gives : WellFormed h → taken h + length bytes ≤ mostBytes → WellCounted (h .flags) l (blocksFilled h (length bytes))
-      → h .flags .detect ≡ true → updated h bytes l .refusal ≡ tableFault (l .tables .vectors)
-  update-gives w q c d = update-lines .is w q ∙ loan-gives (h .flags) l (blocksFilled h (length bytes)) c d
+      → ConditionsPass (h .flags) (l .tables .conditions) → h .flags .detect ≡ true → updated h bytes l .refusal ≡ tableFault (l .tables .vectors)
+  update-gives w q c p d = update-lines .is w q ∙ loan-gives (h .flags) l (blocksFilled h (length bytes)) c p d
+
+  -- 6 is never given where conditions are looked at, and 12 and 13 never where they are not: with detection off or in another setting
+  pub update-never-6 : usesConditions (h .flags) ≡ true → numberOf (updated h bytes l .refusal) ≡ 6 → ⊥
+  update-never-6 u e = never-6 (h .flags) l (blocksFilled h (length bytes)) u (update-6 .0 e .1 .1)
+
+  pub update-never-conditions : usesConditions (h .flags) ≡ false → (n : ℕ) → oneOf conditionNumbers n ≡ true → numberOf (updated h bytes l .refusal) ≡ n → ⊥
+  update-never-conditions off n i e = never-given (h .flags) (l .tables) n off (update-conditions n i .0 e .1 .1)
 
   pub update-only : oneOf (0 ∷ 1 ∷ 7 ∷ loanNumbers) (numberOf (updated h bytes l .refusal)) ≡ true
   update-only = within (0 ∷ 1 ∷ 7 ∷ loanNumbers) (1 ∷ 7 ∷ 0 ∷ loanNumbers) (numberOf (updated h bytes l .refusal)) refl (update-lines .among)
@@ -196,8 +242,8 @@ module _ (five block table : List ℕ) (mask : ℕ) (mode : Mode) where
 outcome-is : (r : Refusal) (v : Verdict) → outcomeRefusal (pick (isNothing r) (Done v) (Refused r)) ≡ r
 outcome-is r v = of-refusal (λ (o : Outcome). outcomeRefusal o ≡ r) r (Done v) (Refused r) (λ e. sym e) (λ e. refl)
 
--- its place is 0 for every number but 3, 4 and 5, as it is for every refusal
-pub outcome-place : (o : Outcome) → ((3 ≤ outcomeNumber o) × (outcomeNumber o ≤ 5) → ⊥) → outcomePlace o ≡ 0
+-- its place is 0 for every number but those that name a record's place, as it is for every refusal
+pub outcome-place : (o : Outcome) → oneOf placedNumbers (outcomeNumber o) ≡ false → outcomePlace o ≡ 0
 outcome-place o = place-none (outcomeRefusal o)
 
 -- Finish: 1, then its loan. Its output is its own, of 20 bytes.
@@ -224,10 +270,27 @@ module _ (h : Hasher) (l : Loan) where
       ↔ (WellFormed h × (WellCounted (h .flags) l (tailBlocks (h .fill)) × VectorsGive (h .flags) (l .tables) n))
   finish-table n t = finish-front .behind n _ (of-table n t) (loan-table (h .flags) l (tailBlocks (h .fill)) n t)
 
-  -- where the table is looked at, what is wrong with it is what is given, number and place
-  pub finish-gives : WellFormed h → WellCounted (h .flags) l (tailBlocks (h .fill)) → h .flags .detect ≡ true
-      → outcomeRefusal (finished h l .outcome) ≡ tableFault (l .tables .vectors)
-  finish-gives w c d = finish-front .is w ∙ loan-gives (h .flags) l (tailBlocks (h .fill)) c d
+  -- 12 and 13, where 6 would stand
+  pub finish-conditions : (n : ℕ) → oneOf conditionNumbers n ≡ true
+      → (outcomeNumber (finished h l .outcome) ≡ n) ↔ (WellFormed h × ConditionsGive (h .flags) (l .tables) n)
+  finish-conditions n i = finish-front .behind n _ (of-conditions n i) (loan-conditions (h .flags) l (tailBlocks (h .fill)) n i)
+
+  -- where the conditions are looked at and bad, what is wrong with them is what is given, number and place
+  pub finish-gives-conditions : WellFormed h → usesConditions (h .flags) ≡ true → (GoodConditions (l .tables .conditions) → ⊥)
+      → outcomeRefusal (finished h l .outcome) ≡ conditionFault (l .tables .conditions)
+  finish-gives-conditions w u b = finish-front .is w ∙ loan-gives-conditions (h .flags) l (tailBlocks (h .fill)) u b
+
+  -- where the table is looked at and the conditions pass, what is wrong with it is what is given, number and place
+  pub finish-gives : WellFormed h → WellCounted (h .flags) l (tailBlocks (h .fill)) → ConditionsPass (h .flags) (l .tables .conditions)
+      → h .flags .detect ≡ true → outcomeRefusal (finished h l .outcome) ≡ tableFault (l .tables .vectors)
+  finish-gives w c p d = finish-front .is w ∙ loan-gives (h .flags) l (tailBlocks (h .fill)) c p d
+
+  -- 6 is never given where conditions are looked at, and 12 and 13 never where they are not: with detection off or in another setting
+  pub finish-never-6 : usesConditions (h .flags) ≡ true → outcomeNumber (finished h l .outcome) ≡ 6 → ⊥
+  finish-never-6 u e = never-6 (h .flags) l (tailBlocks (h .fill)) u (finish-6 .0 e .1)
+
+  pub finish-never-conditions : usesConditions (h .flags) ≡ false → (n : ℕ) → oneOf conditionNumbers n ≡ true → outcomeNumber (finished h l .outcome) ≡ n → ⊥
+  finish-never-conditions off n i e = never-given (h .flags) (l .tables) n off (finish-conditions n i .0 e .1)
 
   pub finish-only : oneOf (0 ∷ 1 ∷ loanNumbers) (outcomeNumber (finished h l .outcome)) ≡ true
   finish-only = within (0 ∷ 1 ∷ loanNumbers) (1 ∷ 0 ∷ loanNumbers) (outcomeNumber (finished h l .outcome)) refl (finish-front .among)
@@ -267,10 +330,28 @@ module _ (h : Hasher) (size : ℕ) (l : Loan) where
       ↔ (WellFormed h × ((size ≡ digestSize) × (WellCounted (h .flags) l (tailBlocks (h .fill)) × VectorsGive (h .flags) (l .tables) n)))
   finish-reset-table n t = finish-reset-lines .at-loan n _ (of-table n t) (loan-table (h .flags) l (tailBlocks (h .fill)) n t)
 
-  -- where the table is looked at, what is wrong with it is what is given, number and place
-  pub finish-reset-gives : WellFormed h → size ≡ digestSize → WellCounted (h .flags) l (tailBlocks (h .fill)) → h .flags .detect ≡ true
+  -- 12 and 13, where 6 would stand
+  pub finish-reset-conditions : (n : ℕ) → oneOf conditionNumbers n ≡ true → (outcomeNumber (finishedReset h size l .outcome) ≡ n)
+      ↔ (WellFormed h × ((size ≡ digestSize) × ConditionsGive (h .flags) (l .tables) n))
+  finish-reset-conditions n i = finish-reset-lines .at-loan n _ (of-conditions n i) (loan-conditions (h .flags) l (tailBlocks (h .fill)) n i)
+
+  -- where the conditions are looked at and bad, what is wrong with them is what is given, number and place
+  pub finish-reset-gives-conditions : WellFormed h → size ≡ digestSize → usesConditions (h .flags) ≡ true
+      → (GoodConditions (l .tables .conditions) → ⊥) → outcomeRefusal (finishedReset h size l .outcome) ≡ conditionFault (l .tables .conditions)
+  finish-reset-gives-conditions w q u b = finish-reset-lines .is w q ∙ loan-gives-conditions (h .flags) l (tailBlocks (h .fill)) u b
+
+  -- where the table is looked at and the conditions pass, what is wrong with it is what is given, number and place
+  pub finish-reset-gives : WellFormed h → size ≡ digestSize → WellCounted (h .flags) l (tailBlocks (h .fill))
+      → ConditionsPass (h .flags) (l .tables .conditions) → h .flags .detect ≡ true
       → outcomeRefusal (finishedReset h size l .outcome) ≡ tableFault (l .tables .vectors)
-  finish-reset-gives w q c d = finish-reset-lines .is w q ∙ loan-gives (h .flags) l (tailBlocks (h .fill)) c d
+  finish-reset-gives w q c p d = finish-reset-lines .is w q ∙ loan-gives (h .flags) l (tailBlocks (h .fill)) c p d
+
+  -- 6 is never given where conditions are looked at, and 12 and 13 never where they are not: with detection off or in another setting
+  pub finish-reset-never-6 : usesConditions (h .flags) ≡ true → outcomeNumber (finishedReset h size l .outcome) ≡ 6 → ⊥
+  finish-reset-never-6 u e = never-6 (h .flags) l (tailBlocks (h .fill)) u (finish-reset-6 .0 e .1 .1)
+
+  pub finish-reset-never-conditions : usesConditions (h .flags) ≡ false → (n : ℕ) → oneOf conditionNumbers n ≡ true → outcomeNumber (finishedReset h size l .outcome) ≡ n → ⊥
+  finish-reset-never-conditions off n i e = never-given (h .flags) (l .tables) n off (finish-reset-conditions n i .0 e .1 .1)
 
   pub finish-reset-only : oneOf (0 ∷ 1 ∷ 8 ∷ loanNumbers) (outcomeNumber (finishedReset h size l .outcome)) ≡ true
   finish-reset-only = within (0 ∷ 1 ∷ 8 ∷ loanNumbers) (1 ∷ 8 ∷ 0 ∷ loanNumbers) (outcomeNumber (finishedReset h size l .outcome)) refl (finish-reset-lines .among)
@@ -309,10 +390,27 @@ module _ (f : Flags) (bytes : List ℕ) (l : Loan) where
       ↔ ((length bytes ≤ mostBytes) × (WellCounted f l (blocksOf (length bytes)) × VectorsGive f (l .tables) n))
   whole-table n t = whole-front .behind n _ (of-table n t) (loan-table f l (blocksOf (length bytes)) n t)
 
-  -- where the table is looked at, what is wrong with it is what is given, number and place
-  pub whole-gives : length bytes ≤ mostBytes → WellCounted f l (blocksOf (length bytes)) → f .detect ≡ true
-      → outcomeRefusal (wholeOf f bytes l .outcome) ≡ tableFault (l .tables .vectors)
-  whole-gives s c d = whole-front .is s ∙ loan-gives f l (blocksOf (length bytes)) c d
+  -- 12 and 13, where 6 would stand
+  pub whole-conditions : (n : ℕ) → oneOf conditionNumbers n ≡ true
+      → (outcomeNumber (wholeOf f bytes l .outcome) ≡ n) ↔ ((length bytes ≤ mostBytes) × ConditionsGive f (l .tables) n)
+  whole-conditions n i = whole-front .behind n _ (of-conditions n i) (loan-conditions f l (blocksOf (length bytes)) n i)
+
+  -- where the conditions are looked at and bad, what is wrong with them is what is given, number and place
+  pub whole-gives-conditions : length bytes ≤ mostBytes → usesConditions f ≡ true → (GoodConditions (l .tables .conditions) → ⊥)
+      → outcomeRefusal (wholeOf f bytes l .outcome) ≡ conditionFault (l .tables .conditions)
+  whole-gives-conditions s u b = whole-front .is s ∙ loan-gives-conditions f l (blocksOf (length bytes)) u b
+
+  -- where the table is looked at and the conditions pass, what is wrong with it is what is given, number and place
+  pub whole-gives : length bytes ≤ mostBytes → WellCounted f l (blocksOf (length bytes)) → ConditionsPass f (l .tables .conditions)
+      → f .detect ≡ true → outcomeRefusal (wholeOf f bytes l .outcome) ≡ tableFault (l .tables .vectors)
+  whole-gives s c p d = whole-front .is s ∙ loan-gives f l (blocksOf (length bytes)) c p d
+
+  -- 6 is never given where conditions are looked at, and 12 and 13 never where they are not: with detection off or in another setting
+  pub whole-never-6 : usesConditions f ≡ true → outcomeNumber (wholeOf f bytes l .outcome) ≡ 6 → ⊥
+  whole-never-6 u e = never-6 f l (blocksOf (length bytes)) u (whole-6 .0 e .1)
+
+  pub whole-never-conditions : usesConditions f ≡ false → (n : ℕ) → oneOf conditionNumbers n ≡ true → outcomeNumber (wholeOf f bytes l .outcome) ≡ n → ⊥
+  whole-never-conditions off n i e = never-given f (l .tables) n off (whole-conditions n i .0 e .1)
 
   pub whole-only : oneOf (0 ∷ 7 ∷ loanNumbers) (outcomeNumber (wholeOf f bytes l .outcome)) ≡ true
   whole-only = within (0 ∷ 7 ∷ loanNumbers) (7 ∷ 0 ∷ loanNumbers) (outcomeNumber (wholeOf f bytes l .outcome)) refl (whole-front .among)
@@ -330,11 +428,21 @@ where-on A = (λ h. h refl, λ a e. a)
 with-on : (A : Type 0) → ((true ≡ true) × A) ↔ A
 with-on A = (λ h. h .1, λ a. (refl, a))
 
--- One-shot: the same with the default flags, by which a mask is asked for each block and the table looked at.
+-- what is asked of conditions by flags that do not look at them, and of vectors by flags that do
+unlooked : (A : Type 0) → false ≡ true → A
+unlooked A e = absurd (false≢true e)
+
+vectors-on : (A B : Type 0) → ((false ≡ true → A) × (true ≡ true → B)) ↔ B
+vectors-on A B = (λ h. h .1 refl, λ b. (unlooked A, λ e. b))
+
+vectors-give-on : (A B : Type 0) → ((false ≡ true → A) × (true ≡ true) × B) ↔ B
+vectors-give-on A B = (λ h. h .2, λ b. (unlooked A, refl, b))
+
+-- One-shot: the same with the default flags, by which a mask is asked for each block, the table looked at, and conditions not.
 module _ (bytes : List ℕ) (l : Loan) where
   pub shot-0 : (outcomeNumber (digested bytes l .outcome) ≡ 0)
       ↔ ((length bytes ≤ mostBytes) × ((length (l .masks) ≡ blocksOf (length bytes)) × GoodTable (l .tables .vectors)))
-  shot-0 = Iff·trans (whole-0 defaults bytes l) (Iff·and Iff·rfl (Iff·and (where-on _) (where-on _)))
+  shot-0 = Iff·trans (whole-0 defaults bytes l) (Iff·and Iff·rfl (Iff·and (where-on _) (vectors-on _ _)))
 
   pub shot-7 : (outcomeNumber (digested bytes l .outcome) ≡ 7) ↔ (mostBytes < length bytes)
   shot-7 = whole-7 defaults bytes l
@@ -345,15 +453,18 @@ module _ (bytes : List ℕ) (l : Loan) where
 
   pub shot-table : (n : ℕ) → oneOf tableNumbers n ≡ true → (outcomeNumber (digested bytes l .outcome) ≡ n)
       ↔ ((length bytes ≤ mostBytes) × ((length (l .masks) ≡ blocksOf (length bytes)) × (numberOf (tableFault (l .tables .vectors)) ≡ n)))
-  shot-table n t = Iff·trans (whole-table defaults bytes l n t) (Iff·and Iff·rfl (Iff·and (where-on _) (with-on _)))
+  shot-table n t = Iff·trans (whole-table defaults bytes l n t) (Iff·and Iff·rfl (Iff·and (where-on _) (vectors-give-on _ _)))
 
   -- where the table is looked at, what is wrong with it is what is given, number and place
   pub shot-gives : length bytes ≤ mostBytes → length (l .masks) ≡ blocksOf (length bytes)
       → outcomeRefusal (digested bytes l .outcome) ≡ tableFault (l .tables .vectors)
-  shot-gives s c = whole-gives defaults bytes l s (λ u. c) refl
+  shot-gives s c = whole-gives defaults bytes l s (λ u. c) (unlooked _) refl
 
-  pub shot-only : oneOf (0 ∷ 7 ∷ loanNumbers) (outcomeNumber (digested bytes l .outcome)) ≡ true
-  shot-only = whole-only defaults bytes l
+  pub shot-only : oneOf (0 ∷ 7 ∷ 6 ∷ tableNumbers) (outcomeNumber (digested bytes l .outcome)) ≡ true
+  shot-only =
+      let n = outcomeNumber (digested bytes l .outcome) in
+      without (0 ∷ 7 ∷ 6 ∷ tableNumbers) conditionNumbers (0 ∷ 7 ∷ loanNumbers) n refl (whole-only defaults bytes l)
+      (λ i. whole-never-conditions defaults bytes l refl n i refl)
 
   -- a refusal gives no verdict and zeros
   pub shot-refused : (outcomeNumber (digested bytes l .outcome) ≡ 0 → ⊥)

@@ -31,6 +31,12 @@ use Rattle.refusal.proofs.is_nothing.Kinds as is-nothing-kinds
 use Rattle.refusal.proofs.is_nothing.Reads as is-nothing-contract
 use Rattle.table.proofs.table_fault.Kinds as table-fault-kinds
 use Rattle.table.proofs.table_fault.Reads as table-fault-contract
+use Rattle.conditions.proofs.condition_fault.Kinds as condition-fault-kinds
+use Rattle.conditions.proofs.condition_fault.Reads as condition-fault-contract
+use Rattle.conditions.proofs.surviving.Kinds as surviving-kinds
+use Rattle.conditions.proofs.surviving.Reads as surviving-contract
+use Rattle.detect.proofs.compress.Kinds as compress-kinds
+use Rattle.detect.proofs.compress.Reads as compress-contract
 use Rattle.detect.proofs.one_block.Kinds as one-block-kinds
 use Rattle.detect.proofs.one_block.Reads as one-block-contract
 use Rattle.flags.proofs.Flags.new.Kinds as defaults-kinds
@@ -41,10 +47,14 @@ use Rattle.flags.proofs.Flags.safe_hash.Kinds as safe-hash-kinds
 use Rattle.flags.proofs.Flags.safe_hash.Reads as safe-hash-contract
 use Rattle.flags.proofs.Flags.use_ubc.Kinds as use-ubc-kinds
 use Rattle.flags.proofs.Flags.use_ubc.Reads as use-ubc-contract
+use Rattle.flags.proofs.Flags.use_conditions.Kinds as use-conditions-kinds
+use Rattle.flags.proofs.Flags.use_conditions.Reads as use-conditions-contract
 use Rattle.flags.proofs.Flags.reduced_round_collision.Kinds as reduced-round-collision-kinds
 use Rattle.flags.proofs.Flags.reduced_round_collision.Reads as reduced-round-collision-contract
 use Rattle.flags.proofs.uses_masks.Kinds as uses-masks-kinds
 use Rattle.flags.proofs.uses_masks.Reads as uses-masks-contract
+use Rattle.flags.proofs.uses_conditions.Kinds as uses-conditions-kinds
+use Rattle.flags.proofs.uses_conditions.Reads as uses-conditions-contract
 use Rattle.fips.proofs.hash_blocks.Kinds as hash-blocks-kinds
 use Rattle.fips.proofs.hash_blocks.Reads as hash-blocks-contract
 use Rattle.fips.proofs.tail_blocks.Kinds as tail-blocks-kinds
@@ -57,6 +67,10 @@ use Rattle.stream.proofs.fold_blocks.Kinds as fold-blocks-kinds
 use Rattle.stream.proofs.fold_blocks.Reads as fold-blocks-contract
 use Rattle.loan.proofs.loan_refusal.Kinds as loan-refusal-kinds
 use Rattle.loan.proofs.loan_refusal.Reads as loan-refusal-contract
+use Rattle.loan.proofs.looked_at.Kinds as looked-at-kinds
+use Rattle.loan.proofs.conditions_for.Kinds as conditions-for-kinds
+use Rattle.loan.proofs.looked_at.Reads as looked-at-contract
+use Rattle.loan.proofs.conditions_for.Reads as conditions-for-contract
 use Rattle.loan.proofs.masks_from.Kinds as masks-from-kinds
 use Rattle.loan.proofs.masks_from.Reads as masks-from-contract
 use Rattle.hasher.proofs.reset.Kinds as reset-kinds
@@ -124,15 +138,25 @@ is-nothing-settled t = same (t .first) (t .second)
 pub table-fault-settled : Settled 1 table-fault-kinds.ps table-fault-kinds.r table-fault-contract.Post
 table-fault-settled t = same (t .first) (t .second)
 
--- The one-block entry.
+-- What is wrong with a table of conditions, and the vectors that survive it.
+pub condition-fault-settled : Settled 1 condition-fault-kinds.ps condition-fault-kinds.r condition-fault-contract.Post
+condition-fault-settled t = same (t .first) (t .second)
+
+pub surviving-settled : Settled 2 surviving-kinds.ps surviving-kinds.r surviving-contract.Post
+surviving-settled t = same (t .first) (t .second)
+
+-- One block with detection, and the one-block entry.
+pub compress-settled : Settled 3 compress-kinds.ps compress-kinds.r compress-contract.Post
+compress-settled t = same (t .first) (t .second)
+
 pub one-block-settled : Settled 2 one-block-kinds.ps one-block-kinds.r one-block-contract.Post
 one-block-settled t = same (t .first) (t .second)
 
 -- An update, and its work where nothing is refused.
-pub update-settled : Settled 3 update-kinds.ps update-kinds.r update-contract.Post
+pub update-settled : Settled 4 update-kinds.ps update-kinds.r update-contract.Post
 update-settled t = same (t .first) (t .second)
 
-pub absorb-settled : Settled 3 absorb-kinds.ps absorb-kinds.r absorb-contract.Post
+pub absorb-settled : Settled 4 absorb-kinds.ps absorb-kinds.r absorb-contract.Post
 absorb-settled t = same (t .first) (t .second)
 
 -- A reset.
@@ -140,17 +164,17 @@ pub reset-settled : Settled 0 reset-kinds.ps reset-kinds.r reset-contract.Post
 reset-settled t = same (t .first) (t .second)
 
 -- A finish, and the chain after the last blocks.
-pub finish-settled : Settled 2 finish-kinds.ps finish-kinds.r finish-contract.Post
+pub finish-settled : Settled 3 finish-kinds.ps finish-kinds.r finish-contract.Post
 finish-settled t = same (t .first) (t .second)
 
-pub last-chain-settled : Settled 2 last-chain-kinds.ps last-chain-kinds.r last-chain-contract.Post
+pub last-chain-settled : Settled 3 last-chain-kinds.ps last-chain-kinds.r last-chain-contract.Post
 last-chain-settled t = same (t .first) (t .second)
 
 -- The one-shot form, and a whole message with any flags.
 pub one-shot-settled : Settled 3 one-shot-kinds.ps one-shot-kinds.r one-shot-contract.Post
 one-shot-settled t = same (t .first) (t .second)
 
-pub whole-settled : Settled 3 whole-kinds.ps whole-kinds.r whole-contract.Post
+pub whole-settled : Settled 4 whole-kinds.ps whole-kinds.r whole-contract.Post
 whole-settled t = same (t .first) (t .second)
 
 -- A new hasher, one at a chain, its chain, and the test of its form.
@@ -166,7 +190,7 @@ chain-settled t = same (t .first) (t .second)
 pub well-formed-settled : Settled 0 well-formed-kinds.ps well-formed-kinds.r well-formed-contract.Post
 well-formed-settled t = same (t .first) (t .second)
 
--- The default flags, the flags with one of them set, and whether they ask for masks.
+-- The default flags, the flags with one of them set, and whether they ask for masks or conditions.
 pub defaults-settled : Settled 0 defaults-kinds.ps defaults-kinds.r defaults-contract.Post
 defaults-settled t = same (t .first) (t .second)
 
@@ -179,17 +203,23 @@ safe-hash-settled t = same (t .first) (t .second)
 pub use-ubc-settled : Settled 0 use-ubc-kinds.ps use-ubc-kinds.r use-ubc-contract.Post
 use-ubc-settled t = same (t .first) (t .second)
 
+pub use-conditions-settled : Settled 0 use-conditions-kinds.ps use-conditions-kinds.r use-conditions-contract.Post
+use-conditions-settled t = same (t .first) (t .second)
+
 pub reduced-round-collision-settled : Settled 0 reduced-round-collision-kinds.ps reduced-round-collision-kinds.r reduced-round-collision-contract.Post
 reduced-round-collision-settled t = same (t .first) (t .second)
 
 pub uses-masks-settled : Settled 0 uses-masks-kinds.ps uses-masks-kinds.r uses-masks-contract.Post
 uses-masks-settled t = same (t .first) (t .second)
 
+pub uses-conditions-settled : Settled 0 uses-conditions-kinds.ps uses-conditions-kinds.r uses-conditions-contract.Post
+uses-conditions-settled t = same (t .first) (t .second)
+
 -- The blocks of a stream, and what is refused of a loan.
-pub fold-blocks-settled : Settled 3 fold-blocks-kinds.ps fold-blocks-kinds.r fold-blocks-contract.Post
+pub fold-blocks-settled : Settled 4 fold-blocks-kinds.ps fold-blocks-kinds.r fold-blocks-contract.Post
 fold-blocks-settled t = same (t .first) (t .second)
 
-pub loan-refusal-settled : Settled 2 loan-refusal-kinds.ps loan-refusal-kinds.r loan-refusal-contract.Post
+pub loan-refusal-settled : Settled 3 loan-refusal-kinds.ps loan-refusal-kinds.r loan-refusal-contract.Post
 loan-refusal-settled t = same (t .first) (t .second)
 
 -- The standard: its blocks, the number of the last ones, and the digest.
@@ -224,11 +254,11 @@ pub comparison-word-settled : Settled 0 comparison-word-kinds.ps comparison-word
 comparison-word-settled t = same (t .first) (t .second)
 
 -- An update in place of a local.
-pub through-settled : Settled 3 through-kinds.ps through-kinds.r through-contract.Post
+pub through-settled : Settled 4 through-kinds.ps through-kinds.r through-contract.Post
 through-settled t = same (t .first) (t .second)
 
 -- A finish-and-reset, with the bytes that it leaves in the lent output.
-pub finish-and-reset-settled : (t : TwoResults 3 finish-reset-kinds.ps finish-reset-kinds.r finish-reset-contract.Post)
+pub finish-and-reset-settled : (t : TwoResults 4 finish-reset-kinds.ps finish-reset-kinds.r finish-reset-contract.Post)
     → (t .x ≡ t .y) × (t .d .1 .0 .now ≡ t .e .1 .0 .now)
 finish-and-reset-settled t = (same (t .first .0) (t .second .0), same (t .first .1) (t .second .1))
 
@@ -248,6 +278,14 @@ lookup-settled t = (same (t .first .0) (t .second .0), same (t .first .1) (t .se
 pub masks-from-settled : (t : TwoResults 1 masks-from-kinds.ps masks-from-kinds.r masks-from-contract.Post) → t .x .now ≡ t .y .now
 masks-from-settled t = same (t .first) (t .second)
 
+-- The masks that a call looks at: likewise.
+pub looked-at-settled : (t : TwoResults 1 looked-at-kinds.ps looked-at-kinds.r looked-at-contract.Post) → t .x .now ≡ t .y .now
+looked-at-settled t = same (t .first) (t .second)
+
+-- The conditions that a call looks at: likewise.
+pub conditions-for-settled : (t : TwoResults 1 conditions-for-kinds.ps conditions-for-kinds.r conditions-for-contract.Post) → t .x .now ≡ t .y .now
+conditions-for-settled t = same (t .first) (t .second)
+
 -- The last blocks of a message: as many bytes as they have; those after them are left open.
 pub tail-settled : (t : TwoResults 0 tail-kinds.ps tail-kinds.r tail-contract.Post)
     → take (64 * tailBlocks (t .args .1 .0)) (t .x) ≡ take (64 * tailBlocks (t .args .1 .0)) (t .y)
@@ -255,9 +293,9 @@ tail-settled t = same (t .first) (t .second)
 
 -- What the contract of an update in place, which is proved by hand, says of its result and of the hasher at exit is `InPlace`.
 pub in-place-says : {M : Type 1} (𝓤 : URA M) (H : Heap 𝓤) (A : Atoms 𝓤) (mem : Memory → SProp 𝓤) (run : Routine → Fun 𝓤)
-    (κs : Lfts 4) (a : Args in-place.signature κs) (r : Res in-place.signature κs) (e : AtExit in-place.ended κs)
+    (κs : Lfts 5) (a : Args in-place.signature κs) (r : Res in-place.signature κs) (e : AtExit in-place.ended κs)
     → in-place.clauses 𝓤 H A mem run κs a .ensures tt r e
-    ≡ fact 𝓤 (InPlace (a .0 .now) (a .1 .0 .now) (loanOf (a .1 .1 .0 .now) (a .1 .1 .1 .0 .now)) r (e .0 .now))
+    ≡ fact 𝓤 (InPlace (a .0 .now) (a .1 .0 .now) (loanOf (a .1 .1 .0 .now) (a .1 .1 .1 .0 .now) (a .1 .1 .1 .1 .0 .now)) r (e .0 .now))
 in-place-says 𝓤 H A mem run κs a r e = refl
 
 -- An update in place: its refusal, and the hasher that it leaves in lent memory.

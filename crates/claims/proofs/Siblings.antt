@@ -12,9 +12,9 @@ use Rattle.flags.specs.declared.Flags.{Flags}
 use Rattle.loan.specs.Loan.{Tables, Loan, lend, lookedAt}
 use Rattle.stream.specs.Fold.{modeOf}
 use Rattle.finish.specs.declared.Outcome.the-variants.{Done}
-use Rattle.claims.specs.Sound.{TypedTables, TablesGood}
+use Rattle.claims.specs.Sound.{TypedVectors, VectorsGood}
 use Rattle.claims.specs.Pieces.{Piece, bytesOf, hashed, loanOfAll, NoneRefused}
-use Rattle.claims.specs.Marked.{againBy, blockAt, maskFor, wordsBefore, markedAt}
+use Rattle.claims.specs.Marked.{againBy, blockAt, selectedAt, wordsBefore, markedAt}
 use Rattle.claims.specs.Message.{MetInAt, OneMetIn, MetAt, NoneMet, OneMet}
 use Rattle.claims.specs.EveryCall.{VerdictBy}
 use Rattle.claims.proofs.Along.{hash-words, initial-words, padded-bytes, block-bytes}
@@ -24,13 +24,13 @@ use Rattle.claims.proofs.MetAlong.{with-detection, looked-good, marked-
 use Rattle.claims.proofs.EveryCall.{decided-by, message-met}
 
 module _ (f : Flags) (on : f .detect ≡ true) (off : f .reduced ≡ false) where
-  module _ (l : Loan) (words : TypedTables (l .tables)) (msg : List ℕ) (bytes : AllBytes msg) (good : TablesGood (l .tables)) where
-    -- Block i is marked exactly when a sibling that its mask selects meets it.
+  module _ (l : Loan) (words : TypedVectors (l .tables)) (msg : List ℕ) (bytes : AllBytes msg) (good : VectorsGood (l .tables)) where
+    -- Block i is marked exactly when a sibling that is selected for it meets it.
     pub marked-at-exactly : (i : ℕ) → (markedAt f l msg i ≡ true) ↔ MetAt f l msg i
     marked-at-exactly i =
         let h = wordsBefore f l msg i in
         let block = blockAt (padded msg) i in
-        let mask = maskFor (lookedAt f (l .masks)) i in
+        let mask = selectedAt f l (padded msg) i in
         with-detection (f .detect) (answerOf (modeOf f) (l .tables .vectors) h block mask .found .mark) (MetAt f l msg i) on
         (marked-exactly h block (l .tables .vectors) (hash-words (againBy f (l .tables)) i initial (padded msg) (lookedAt f (l .masks)) initial-words)
         (block-bytes (padded msg) i (padded-bytes msg bytes)) words (modeOf f) mask good off)
@@ -45,7 +45,7 @@ module _ (f : Flags) (on : f .detect ≡ true) (off : f .reduced ≡ false) wher
       λ w. (on, (w .0, w .1, met-alike (w .0) .1 (w .2))),
     )
 
-  module _ (t : Tables) (words : TypedTables t) (ps : List Piece) (last : List ℕ) (bytes : AllBytes (bytesOf ps)) (ok : NoneRefused f t ps last) where
+  module _ (t : Tables) (words : TypedVectors t) (ps : List Piece) (last : List ℕ) (bytes : AllBytes (bytesOf ps)) (ok : NoneRefused f t ps last) where
     verdict-met : VerdictBy (hashed f t ps last .outcome) (f .mitigate) (OneMet f (loanOfAll t ps last) (bytesOf ps))
     verdict-met =
         let good = looked-good f (lend t last) (last-accepted f t ps last ok .good) on in

@@ -1,4 +1,5 @@
--- What a call does not look at changes nothing: the loan with detection off, masks where none are asked for; and masks off is every bit for every block. Assumes nothing.
+-- What a call does not look at changes nothing: the loan with detection off, masks and conditions where none are asked for; and masks off
+-- is every bit for every block. Assumes nothing.
 use mathlib.Core.Path.{_≡_, refl, sym}
 use mathlib.Core.Bool.{Bool, true, false, not, _&&_, and-false}
 use mathlib.Core.List.{List, []}
@@ -7,23 +8,24 @@ use borrow.Author.Tests.{eq-eqb}
 use lib.Dec.{eqb}
 use lib.ListN.{length, take, drop, replicate, length-replicate}
 use Rattle.word.specs.Choice.{pick}
-use Rattle.refusal.specs.Refusal.{isNothing}
-use Rattle.verdict.specs.Verdict.{digestSize}
+use Rattle.word.proofs.Tests.{unless-true}
 use Rattle.fips.specs.Fips.{padded}
 use Rattle.fips.specs.Tail.{tailBlocks, tailOf}
-use Rattle.flags.specs.Flags.{usesMasks, withMasks}
+use Rattle.flags.specs.Flags.{usesMasks, usesConditions, withMasks}
 use Rattle.flags.specs.declared.Flags.{Flags}
 use Rattle.flags.specs.declared.Masks.the-variants.{All, Lent}
-use Rattle.loan.specs.Loan.{Tables, Loan, lend, loanRefusal}
-use Rattle.stream.specs.Fold.{allBits, firstChain, blockOf, chained, folded}
+use Rattle.loan.specs.Loan.{Tables, Loan, lend, loanOf, loanRefusal}
+use Rattle.loan.proofs.Loans.{one-setting}
+use Rattle.stream.specs.Fold.{allBits, firstChain, chained, folded}
 use Rattle.stream.specs.declared.Chain.{Chain}
-use Rattle.hasher.specs.Hasher.{wellFormed, taken, chainOf, freshOf}
+use Rattle.hasher.specs.Hasher.{taken, chainOf}
 use Rattle.hasher.specs.declared.Hasher.{Hasher}
 use Rattle.absorb.specs.Absorb.{streamOf, advanced, absorbed}
 use Rattle.update.specs.Update.{blocksFilled, updateRefusal, updated}
 use Rattle.finish.specs.Finish.{finishRefusal, lastChain, finished, finishedReset, writtenOut}
 use Rattle.one_shot.specs.Whole.{blocksOf, wholeRefusal, wholeChain, wholeOf}
 use Rattle.claims.specs.Settings.{masksOff, masksOn, everyBit, everyBlock, everyLast}
+use Rattle.claims.proofs.Settings.{Alike, update-alike, finish-alike, finish-reset-alike, output-alike, whole-alike}
 
 -- With detection off nothing of the loan is looked at.
 module _ (h : Hasher) (off : h .flags .detect ≡ false) (l other : Loan) where
@@ -70,6 +72,33 @@ pub whole-unmasked : (f : Flags) → usesMasks f ≡ false → (bytes : List ℕ
 unfolding wholeOf wholeRefusal loanRefusal wholeChain folded
 whole-unmasked f off bytes t masks others = rw off
 
+-- With conditions, lent masks are not looked at: the settings exclude each other.
+pub conditions-no-masks : (f : Flags) → usesConditions f ≡ true → usesMasks f ≡ false
+conditions-no-masks f on = unless-true (usesMasks f) (one-setting f on)
+
+-- Where the flags ask for no conditions, those lent are not looked at: in the other two settings, and with detection off.
+module _ (h : Hasher) (off : usesConditions (h .flags) ≡ false) (vectors conditions others masks : List ℕ) where
+  pub update-unconditioned : (bytes : List ℕ) → updated h bytes (loanOf vectors conditions masks) ≡ updated h bytes (loanOf vectors others masks)
+  unfolding updated updateRefusal loanRefusal absorbed advanced folded
+  update-unconditioned bytes = rw off
+
+  pub finish-unconditioned : finished h (loanOf vectors conditions masks) ≡ finished h (loanOf vectors others masks)
+  unfolding finished finishRefusal loanRefusal lastChain folded
+  finish-unconditioned = rw off
+
+  pub finish-reset-unconditioned : (size : ℕ) → finishedReset h size (loanOf vectors conditions masks) ≡ finishedReset h size (loanOf vectors others masks)
+  unfolding finishedReset finishRefusal loanRefusal lastChain folded
+  finish-reset-unconditioned size = rw off
+
+  pub output-unconditioned : (out : List ℕ) → writtenOut h out (loanOf vectors conditions masks) ≡ writtenOut h out (loanOf vectors others masks)
+  unfolding writtenOut finishRefusal loanRefusal lastChain folded
+  output-unconditioned out = rw off
+
+pub whole-unconditioned : (f : Flags) → usesConditions f ≡ false → (bytes vectors conditions others masks : List ℕ)
+    → wholeOf f bytes (loanOf vectors conditions masks) ≡ wholeOf f bytes (loanOf vectors others masks)
+unfolding wholeOf wholeRefusal loanRefusal wholeChain folded
+whole-unconditioned f off bytes vectors conditions others masks = rw off
+
 -- masks that have every bit, any number of them or none, say what no masks say
 chained-bits : (step : Chain → List ℕ → ℕ → Chain) (n k : ℕ) (c : Chain) (xs : List ℕ) → chained step n c xs (replicate k allBits) ≡ chained step n c xs []
 unfolding chained
@@ -86,11 +115,7 @@ by-bits false step n k c xs = refl
 fold-bits : (f : Flags) (l : Loan) (c : Chain) (xs : List ℕ) (k : ℕ) → folded (withMasks f All) l c xs ≡ folded (withMasks f Lent) (everyBit k l) c xs
 unfolding folded
 fold-bits f l c xs k =
-    rw (and-false (f .detect)) (by-bits (f .detect && true) (blockOf f (l .tables)) (length xs / 64) k c xs)
-
-pick-off : (b : Bool) (x y : Hasher) → masksOff (pick b x y) ≡ pick b (masksOff x) (masksOff y)
-pick-off true x y = refl
-pick-off false x y = refl
+    rw (and-false (f .detect)) (by-bits (f .detect && true) _ (length xs / 64) k c xs)
 
 -- as many masks as there are blocks are not a wrong number, and none are where none are asked for
 counts-right : (on : Bool) (k n : ℕ) → ((on && false) && not (eqb k n)) ≡ ((on && true) && not (eqb (length (replicate n allBits)) n))
@@ -102,51 +127,33 @@ loan-bits : (f : Flags) (l : Loan) (n : ℕ) → loanRefusal (withMasks f All) l
 unfolding loanRefusal
 loan-bits f l n = rw (counts-right (f .detect) (length (l .masks)) n)
 
+-- in every call and whatever the blocks
+bits-alike : (l : Loan) (f : Flags) (n : ℕ) (c : Chain) (xs : List ℕ) → Alike All Lent l (everyBit n l) f n c xs
+bits-alike l f n c xs = record { loans = loan-bits f l n; folds = fold-bits f l c xs n }
+
 -- Masks off is every bit for every block: the answers are those with masks on and a mask of every bit lent for each block of the call.
 module _ (h : Hasher) (l : Loan) where
-  module _ (bytes : List ℕ) where
-    update-refusal : updateRefusal (masksOff h) bytes l ≡ updateRefusal (masksOn h) bytes (everyBlock h bytes l)
-    unfolding updateRefusal wellFormed
-    update-refusal = rw (loan-bits (h .flags) l (blocksFilled h (length bytes)))
+  pub update-every-bit : (bytes : List ℕ) → updated (masksOff h) bytes l
+      ≡ record { refusal = updated (masksOn h) bytes (everyBlock h bytes l) .refusal; hasher = masksOff (updated (masksOn h) bytes (everyBlock h bytes l) .hasher) }
+  update-every-bit bytes =
+      update-alike All Lent l (everyBlock h bytes l) h bytes (bits-alike l (h .flags) (blocksFilled h (length bytes)) (chainOf h) (streamOf h bytes))
 
-    update-hasher : absorbed (masksOff h) bytes l ≡ masksOff (absorbed (masksOn h) bytes (everyBlock h bytes l))
-    unfolding absorbed advanced
-    update-hasher = rw (fold-bits (h .flags) l (chainOf h) (streamOf h bytes) (blocksFilled h (length bytes)))
-
-    pub update-every-bit : updated (masksOff h) bytes l
-        ≡ record { refusal = updated (masksOn h) bytes (everyBlock h bytes l) .refusal; hasher = masksOff (updated (masksOn h) bytes (everyBlock h bytes l) .hasher) }
-    unfolding updated
-    update-every-bit =
-        let b = isNothing (updateRefusal (masksOn h) bytes (everyBlock h bytes l)) in
-        rw (update-refusal, update-hasher, pick-off b (absorbed (masksOn h) bytes (everyBlock h bytes l)) (masksOn h))
-
-  finish-refusal : (size : ℕ) → finishRefusal (masksOff h) size l ≡ finishRefusal (masksOn h) size (everyLast h l)
-  unfolding finishRefusal wellFormed
-  finish-refusal size = rw (loan-bits (h .flags) l (tailBlocks (h .fill)))
-
-  last-bits : lastChain (masksOff h) l ≡ lastChain (masksOn h) (everyLast h l)
-  unfolding lastChain
-  last-bits = fold-bits (h .flags) l (chainOf h) (tailOf (h .pending) (h .fill) (taken h)) (tailBlocks (h .fill))
+  last-bits : Alike All Lent l (everyLast h l) (h .flags) (tailBlocks (h .fill)) (chainOf h) (tailOf (h .pending) (h .fill) (taken h))
+  last-bits = bits-alike l (h .flags) (tailBlocks (h .fill)) (chainOf h) (tailOf (h .pending) (h .fill) (taken h))
 
   pub finish-every-bit : finished (masksOff h) l
       ≡ record { outcome = finished (masksOn h) (everyLast h l) .outcome; digest = finished (masksOn h) (everyLast h l) .digest; hasher = masksOff h }
-  unfolding finished
-  finish-every-bit = rw (finish-refusal digestSize, last-bits)
+  finish-every-bit = finish-alike All Lent l (everyLast h l) h last-bits
 
   pub finish-reset-every-bit : (size : ℕ) → finishedReset (masksOff h) size l
       ≡ record { outcome = finishedReset (masksOn h) size (everyLast h l) .outcome; hasher = masksOff (finishedReset (masksOn h) size (everyLast h l) .hasher) }
-  unfolding finishedReset
-  finish-reset-every-bit size =
-      let b = isNothing (finishRefusal (masksOn h) size (everyLast h l)) in
-      rw (finish-refusal size, last-bits, pick-off b (freshOf (masksOn h .flags)) (masksOn h))
+  finish-reset-every-bit = finish-reset-alike All Lent l (everyLast h l) h last-bits
 
   pub output-every-bit : (out : List ℕ) → writtenOut (masksOff h) out l ≡ writtenOut (masksOn h) out (everyLast h l)
-  unfolding writtenOut
-  output-every-bit out = rw (finish-refusal (length out), last-bits)
+  output-every-bit = output-alike All Lent l (everyLast h l) h last-bits
 
 pub whole-every-bit : (f : Flags) (bytes : List ℕ) (l : Loan)
     → wholeOf (withMasks f All) bytes l ≡ wholeOf (withMasks f Lent) bytes (everyBit (blocksOf (length bytes)) l)
-unfolding wholeOf wholeRefusal wholeChain
 whole-every-bit f bytes l =
     let n = blocksOf (length bytes) in
-    rw (loan-bits f l n, fold-bits f l firstChain (padded bytes) n)
+    whole-alike All Lent l (everyBit n l) f bytes (bits-alike l f n firstChain (padded bytes))

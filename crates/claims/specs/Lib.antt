@@ -5,6 +5,7 @@ pub mod Marked
 pub mod Refusals
 pub mod Settings
 pub mod Message
+pub mod Selected
 pub mod EveryCall
 pub mod Several
 pub mod Control

@@ -7,15 +7,19 @@ use lib.ListN.{length, getD, take, drop}
 use Rattle.word.specs.Choice.{pick}
 use Rattle.step.specs.declared.Regs.{Regs}
 use Rattle.block.specs.Compress.{compressOf}
-use Rattle.detect.specs.Detect.{answerOf}
+use Rattle.detect.specs.Detect.{selectionOf, answerOf}
 use Rattle.fips.specs.Fips.{padded, initial, digestOf}
 use Rattle.flags.specs.declared.Flags.{Flags}
-use Rattle.loan.specs.Loan.{Tables, Loan, lookedAt}
+use Rattle.loan.specs.Loan.{Tables, Loan, lookedAt, conditionsFor}
 use Rattle.stream.specs.Fold.{allBits, modeOf}
+
+-- the vectors that a block is tried with: those of its mask that survive the conditions, where they are looked at
+abbrev pub selectedBy : Flags → Tables → List ℕ → ℕ → ℕ
+selectedBy f t block mask = selectionOf (conditionsFor f (t .conditions)) block mask
 
 -- whether the block that meets the chaining words h is marked: never with detection off
 abbrev pub markedBy : Flags → Tables → Regs → List ℕ → ℕ → Bool
-markedBy f t h block mask = f .detect && answerOf (modeOf f) (t .vectors) h block mask .found .mark
+markedBy f t h block mask = f .detect && answerOf (modeOf f) (t .vectors) h block (selectedBy f t block mask) .found .mark
 
 -- whether it is compressed twice more: it is marked, and mitigation is on
 abbrev pub againBy : Flags → Tables → Regs → List ℕ → ℕ → Bool
@@ -43,6 +47,10 @@ blockAt xs i = take 64 (drop (64 * i) xs)
 -- the mask of block i: every bit where none is given
 abbrev pub maskFor : List ℕ → ℕ → ℕ
 maskFor masks i = getD masks i allBits
+
+-- the vectors that block i of a stream is tried with
+abbrev pub selectedAt : Flags → Loan → List ℕ → ℕ → ℕ
+selectedAt f l xs i = selectedBy f (l .tables) (blockAt xs i) (maskFor (lookedAt f (l .masks)) i)
 
 -- the chaining words that block i of a stream meets, where h are those before the stream
 abbrev pub wordsAt : Flags → Loan → Regs → List ℕ → ℕ → Regs

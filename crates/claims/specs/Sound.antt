@@ -23,10 +23,14 @@ pub record Typed (h : Hasher) : Type 0 where
   pub words-are : AllWords (h .words)
   pub bytes-are : AllBytes (h .pending)
 
--- what a table holds are words, as its type says
-abbrev pub TypedTables : Tables → Type 0
-TypedTables t = AllWords (t .vectors)
+-- what the table of vectors holds are words, as its type says
+abbrev pub TypedVectors : Tables → Type 0
+TypedVectors t = AllWords (t .vectors)
 
--- each of the tables is good
-abbrev pub TablesGood : Tables → Type 0
-TablesGood t = GoodTable (t .vectors)
+-- so are what the table of conditions holds
+abbrev pub TypedConditions : Tables → Type 0
+TypedConditions t = AllWords (t .conditions)
+
+-- the table of vectors is good
+abbrev pub VectorsGood : Tables → Type 0
+VectorsGood t = GoodTable (t .vectors)

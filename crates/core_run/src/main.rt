@@ -21,32 +21,16 @@ use detect::OneBlock;
 use detect::one_block;
 use printing::say;
 use printing::say_decimal;
+use printing::say_found;
 use printing::say_refusal;
 use printing::say_words;
 use refusal::Refusal;
 use refusal::is_nothing;
 use refusal::number;
 use refusal::place;
-use search::Found;
 use table_file::MOST_WORDS;
 use table_file::file_fault;
 use table_file::file_words;
-
-fn say_mark(mark: bool) {
-    if mark {
-        say(b"marked by ");
-    } else {
-        say(b"unmarked, place ");
-    }
-}
-
-fn say_found(f: Found) {
-    say_mark(f.mark);
-    say_decimal(f.place as u64);
-    say(b", tried ");
-    say_decimal(f.tried as u64);
-    say(b"\n");
-}
 
 fn say_fault(r: Refusal) {
     if !is_nothing(r) {
@@ -65,6 +49,7 @@ fn say_block(case: &[u8], b: OneBlock) {
     say_fault(r);
     say_words(w);
     say_found(f);
+    say(b"\n");
 }
 
 fn start() -> [u32; 5] {

@@ -2,6 +2,7 @@
 use mathlib.Core.Bool.{false, _&&_}
 use mathlib.Core.List.{List}
 use Prim.Native.Nat.{ℕ}
+use lib.Bits.{bitAnd}
 use lib.Dec.{eqb}
 use lib.ListN.{length, replicate}
 use Rattle.word.specs.Choice.{pick}
@@ -13,11 +14,16 @@ use Rattle.refusal.specs.Refusal.{isNothing}
 use Rattle.refusal.specs.declared.Refusal.{Refusal}
 use Rattle.refusal.specs.declared.Refusal.the-variants.{Nothing, Size}
 use Rattle.table.specs.Table.{tableFault}
+use Rattle.conditions.specs.Conditions.{survivingOf}
 use Rattle.detect.specs.declared.Mode.{Mode}
 use Rattle.search.specs.Marks.{foundIn}
 use Rattle.search.specs.declared.Found.{Found}
 use Rattle.detect.specs.declared.Answer.{Answer}
 use Rattle.detect.specs.declared.OneBlock.{OneBlock}
+
+-- the vectors that a block is tried with: those of its mask that survive the conditions
+unfoldable pub selectionOf : List ℕ → List ℕ → ℕ → ℕ
+selectionOf conditions block mask = bitAnd mask (survivingOf (scheduleOf (wordsOf block)) conditions)
 
 -- compressed twice more with the same schedule
 abbrev pub twiceMore : Regs → List ℕ → Regs

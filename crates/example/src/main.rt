@@ -13,15 +13,16 @@ fn main() {
     let mut table = [0u32; 82];
     table[1] = 58;
     let flags = Flags::new().use_ubc(false);
-    let none = [0u32; 1];
-    let first = update(Hasher::new(flags), b"hello ", &table, &none[0..0]);
-    let second = update(first.hasher, b"world", &table, &none[0..0]);
+    let empty = [0u32; 1];
+    let none = &empty[0..0];
+    let first = update(Hasher::new(flags), b"hello ", &table, none, none);
+    let second = update(first.hasher, b"world", &table, none, none);
     let r = second.refusal;
     if !is_nothing(r) {
         say_refusal(r);
         return;
     }
-    let f = finish(second.hasher, &table, &none[0..0]);
+    let f = finish(second.hasher, &table, none, none);
     let outcome = f.outcome;
     let digest = f.digest;
     say_answer(outcome, &digest);

@@ -8,7 +8,7 @@ ghost use Rattle.loan.specs.Loan.{loanOf};
 ghost use Rattle.answers.specs.Answers.{left};
 ghost use Rattle.lent_hasher.specs.LentHasher.{newCall, updateCall, resetCall};
 ghost use Rattle.lent_finish.specs.LentFinish.{finishCall, finishResetCall};
-ghost use Rattle.lent_table.specs.LentTable.{blockCall, oneShotCall, tableCall};
+ghost use Rattle.lent_table.specs.LentTable.{blockCall, oneShotCall, tableCall, conditionsCall};
 ghost use Rattle.lent_sheet.specs.LentSheet.{lookupCall, compareCall};
 use lent_finish::finish_and_reset_lent;
 use lent_finish::finish_lent;
@@ -17,6 +17,7 @@ use lent_hasher::reset_lent;
 use lent_hasher::update_lent;
 use lent_sheet::compare_lent;
 use lent_sheet::lookup_lent;
+use lent_table::condition_fault_lent;
 use lent_table::one_block_lent;
 use lent_table::one_shot_lent;
 use lent_table::table_fault_lent;
@@ -57,12 +58,22 @@ pub extern "C" fn purserumble_update(
     state: &mut [u64],
     bytes: &[u8],
     table: &[u32],
+    conditions: &[u32],
     masks: &[u32],
     answer: &mut [u64],
 ) -> u32
-    ensures { λ r. ⌜ left r (now (words .exit) ∷ now (pending .exit) ∷ now (state .exit) ∷ now (answer .exit) ∷ []) ≡ updateCall (now (words .entry)) (now (pending .entry)) (now (state .entry)) (now (bytes .entry)) (loanOf (now (table .entry)) (now (masks .entry))) (now (answer .entry)) ⌝ }
+    ensures { λ r. ⌜ left r (now (words .exit) ∷ now (pending .exit) ∷ now (state .exit) ∷ now (answer .exit) ∷ []) ≡ updateCall (now (words .entry)) (now (pending .entry)) (now (state .entry)) (now (bytes .entry)) (loanOf (now (table .entry)) (now (conditions .entry)) (now (masks .entry))) (now (answer .entry)) ⌝ }
 {
-    update_lent(words, pending, state, bytes, table, masks, answer)
+    update_lent(
+        words,
+        pending,
+        state,
+        bytes,
+        table,
+        conditions,
+        masks,
+        answer,
+    )
 }
 
 #[no_mangle]
@@ -85,12 +96,22 @@ pub extern "C" fn purserumble_finish(
     state: &[u64],
     digest: &mut [u8],
     table: &[u32],
+    conditions: &[u32],
     masks: &[u32],
     answer: &mut [u64],
 ) -> u32
-    ensures { λ r. ⌜ left r (now (digest .exit) ∷ now (answer .exit) ∷ []) ≡ finishCall (now (words .entry)) (now (pending .entry)) (now (state .entry)) (now (digest .entry)) (loanOf (now (table .entry)) (now (masks .entry))) (now (answer .entry)) ⌝ }
+    ensures { λ r. ⌜ left r (now (digest .exit) ∷ now (answer .exit) ∷ []) ≡ finishCall (now (words .entry)) (now (pending .entry)) (now (state .entry)) (now (digest .entry)) (loanOf (now (table .entry)) (now (conditions .entry)) (now (masks .entry))) (now (answer .entry)) ⌝ }
 {
-    finish_lent(words, pending, state, digest, table, masks, answer)
+    finish_lent(
+        words,
+        pending,
+        state,
+        digest,
+        table,
+        conditions,
+        masks,
+        answer,
+    )
 }
 
 #[no_mangle]
@@ -100,12 +121,13 @@ pub extern "C" fn purserumble_finish_and_reset(
     state: &mut [u64],
     out: &mut [u8],
     table: &[u32],
+    conditions: &[u32],
     masks: &[u32],
     answer: &mut [u64],
 ) -> u32
-    ensures { λ r. ⌜ left r (now (words .exit) ∷ now (pending .exit) ∷ now (state .exit) ∷ now (out .exit) ∷ now (answer .exit) ∷ []) ≡ finishResetCall (now (words .entry)) (now (pending .entry)) (now (state .entry)) (now (out .entry)) (loanOf (now (table .entry)) (now (masks .entry))) (now (answer .entry)) ⌝ }
+    ensures { λ r. ⌜ left r (now (words .exit) ∷ now (pending .exit) ∷ now (state .exit) ∷ now (out .exit) ∷ now (answer .exit) ∷ []) ≡ finishResetCall (now (words .entry)) (now (pending .entry)) (now (state .entry)) (now (out .entry)) (loanOf (now (table .entry)) (now (conditions .entry)) (now (masks .entry))) (now (answer .entry)) ⌝ }
 {
-    finish_and_reset_lent(words, pending, state, out, table, masks, answer)
+    finish_and_reset_lent(words, pending, state, out, table, conditions, masks, answer)
 }
 
 #[no_mangle]
@@ -116,7 +138,7 @@ pub extern "C" fn purserumble_one_shot(
     masks: &[u32],
     answer: &mut [u64],
 ) -> u32
-    ensures { λ r. ⌜ left r (now (digest .exit) ∷ now (answer .exit) ∷ []) ≡ oneShotCall (now (bytes .entry)) (now (digest .entry)) (loanOf (now (table .entry)) (now (masks .entry))) (now (answer .entry)) ⌝ }
+    ensures { λ r. ⌜ left r (now (digest .exit) ∷ now (answer .exit) ∷ []) ≡ oneShotCall (now (bytes .entry)) (now (digest .entry)) (loanOf (now (table .entry)) [] (now (masks .entry))) (now (answer .entry)) ⌝ }
 {
     one_shot_lent(bytes, digest, table, masks, answer)
 }
@@ -126,6 +148,13 @@ pub extern "C" fn purserumble_table_fault(table: &[u32], answer: &mut [u64]) -> 
     ensures { λ r. ⌜ left r (now (answer .exit) ∷ []) ≡ tableCall (now (table .entry)) (now (answer .entry)) ⌝ }
 {
     table_fault_lent(table, answer)
+}
+
+#[no_mangle]
+pub extern "C" fn purserumble_condition_fault(conditions: &[u32], answer: &mut [u64]) -> u32
+    ensures { λ r. ⌜ left r (now (answer .exit) ∷ []) ≡ conditionsCall (now (conditions .entry)) (now (answer .entry)) ⌝ }
+{
+    condition_fault_lent(conditions, answer)
 }
 
 // An exported function can hand back no part of a slice: it says where the part lies.

@@ -2,7 +2,8 @@
 ghost use mathlib.Core.Path.{_≡_};
 ghost use mathlib.Core.Bool.{true};
 ghost use lib.ListN.{length};
-ghost use Rattle.loan.specs.Loan.{loanOf};
+ghost use Rattle.conditions.specs.Good.{GoodConditions};
+ghost use Rattle.loan.specs.Loan.{loanOf, conditionsFor};
 ghost use Rattle.hasher.specs.Hasher.{wellFormed};
 ghost use Rattle.finish.specs.Finish.{lastChain, finishRefusal, finished, finishedReset, writtenOut};
 use fips::digest;
@@ -40,21 +41,28 @@ pub struct FinishedReset {
 }
 
 // The chain after the last blocks.
-pub fn last_chain(h: Hasher, table: &[u32], masks: &[u32]) -> Chain
+pub fn last_chain(h: Hasher, table: &[u32], conditions: &[u32], masks: &[u32]) -> Chain
     requires { ⌜ wellFormed h ≡ true ⌝ }
-    ensures { λ r. ⌜ r ≡ lastChain h (loanOf (now (table .entry)) (now (masks .entry))) ⌝ }
+    requires { ⌜ GoodConditions (conditionsFor (h .flags) (now conditions)) ⌝ }
+    ensures { λ r. ⌜ r ≡ lastChain h (loanOf (now (table .entry)) (now (conditions .entry)) (now (masks .entry))) ⌝ }
 {
     let fill = h.fill;
     let pending = h.pending;
     let flags = h.flags;
     let last = tail(pending, fill, h.blocks * 64 + (fill as u64));
     let end = 64 * tail_blocks(fill);
-    fold_blocks(flags, table, h.chain(), &last[..end], masks)
+    fold_blocks(flags, table, conditions, h.chain(), &last[..end], masks)
 }
 
 // What a finish into an output of so many bytes refuses.
-fn finish_refusal(h: Hasher, size: usize, table: &[u32], masks: &[u32]) -> Refusal
-    ensures { λ r. ⌜ r ≡ finishRefusal h size (loanOf (now (table .entry)) (now (masks .entry))) ⌝ }
+fn finish_refusal(
+    h: Hasher,
+    size: usize,
+    table: &[u32],
+    conditions: &[u32],
+    masks: &[u32],
+) -> Refusal
+    ensures { λ r. ⌜ r ≡ finishRefusal h size (loanOf (now (table .entry)) (now (conditions .entry)) (now (masks .entry))) ⌝ }
 {
     if !well_formed(h) {
         return Refusal::HasherForm;
@@ -63,16 +71,16 @@ fn finish_refusal(h: Hasher, size: usize, table: &[u32], masks: &[u32]) -> Refus
         return Refusal::Size;
     }
     let flags = h.flags;
-    loan_refusal(flags, table, masks, tail_blocks(h.fill))
+    loan_refusal(flags, table, conditions, masks, tail_blocks(h.fill))
 }
 
 // The digest and the verdict; the hasher comes back as it was.
-pub fn finish(h: Hasher, table: &[u32], masks: &[u32]) -> Finished
-    ensures { λ r. ⌜ r ≡ finished h (loanOf (now (table .entry)) (now (masks .entry))) ⌝ }
+pub fn finish(h: Hasher, table: &[u32], conditions: &[u32], masks: &[u32]) -> Finished
+    ensures { λ r. ⌜ r ≡ finished h (loanOf (now (table .entry)) (now (conditions .entry)) (now (masks .entry))) ⌝ }
 {
-    let r = finish_refusal(h, DIGEST_SIZE, table, masks);
+    let r = finish_refusal(h, DIGEST_SIZE, table, conditions, masks);
     if is_nothing(r) {
-        let c = last_chain(h, table, masks);
+        let c = last_chain(h, table, conditions, masks);
         let flags = h.flags;
         return Finished {
             outcome: Outcome::Done(verdict_of(c.mark, flags.mitigate)),
@@ -88,12 +96,18 @@ pub fn finish(h: Hasher, table: &[u32], masks: &[u32]) -> Finished
 }
 
 // The digest written to a lent output, and the hasher reset.
-pub fn finish_and_reset(h: Hasher, out: &mut [u8], table: &[u32], masks: &[u32]) -> FinishedReset
-    ensures { λ r. ⌜ (r ≡ finishedReset h (length (now (out .entry))) (loanOf (now (table .entry)) (now (masks .entry)))) × (now (out .exit) ≡ writtenOut h (now (out .entry)) (loanOf (now (table .entry)) (now (masks .entry)))) ⌝ }
+pub fn finish_and_reset(
+    h: Hasher,
+    out: &mut [u8],
+    table: &[u32],
+    conditions: &[u32],
+    masks: &[u32],
+) -> FinishedReset
+    ensures { λ r. ⌜ (r ≡ finishedReset h (length (now (out .entry))) (loanOf (now (table .entry)) (now (conditions .entry)) (now (masks .entry)))) × (now (out .exit) ≡ writtenOut h (now (out .entry)) (loanOf (now (table .entry)) (now (conditions .entry)) (now (masks .entry)))) ⌝ }
 {
-    let r = finish_refusal(h, out.len(), table, masks);
+    let r = finish_refusal(h, out.len(), table, conditions, masks);
     if is_nothing(r) {
-        let c = last_chain(h, table, masks);
+        let c = last_chain(h, table, conditions, masks);
         let flags = h.flags;
         let d = digest(c.words);
         store(out, 0, &d, DIGEST_SIZE);

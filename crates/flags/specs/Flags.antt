@@ -1,9 +1,9 @@
--- A hasher's flags: 01, "The hasher".
+-- A hasher's flags: 01, "The hasher", with 02's request d.
 use mathlib.Core.Bool.{Bool, true, false, _&&_}
 use Rattle.word.specs.Choice.{pick}
 use Rattle.flags.specs.declared.Flags.{Flags}
 use Rattle.flags.specs.declared.Masks.{Masks}
-use Rattle.flags.specs.declared.Masks.the-variants.{All, Lent}
+use Rattle.flags.specs.declared.Masks.the-variants.{All, Lent, Conditions}
 
 -- detection, mitigation and masks on, reduced-round mode off
 abbrev pub defaults : Flags
@@ -12,6 +12,10 @@ defaults = record { detect = true; mitigate = true; masks = Lent; reduced = fals
 -- masks on is one lent mask a block, masks off every vector for every block
 abbrev pub masksOf : Bool → Masks
 masksOf on = pick on Lent All
+
+-- conditions on is the vectors that survive them, conditions off every vector for every block
+abbrev pub conditionsOf : Bool → Masks
+conditionsOf on = pick on Conditions All
 
 -- the flags with detection set
 abbrev pub withDetect : Flags → Bool → Flags
@@ -33,7 +37,18 @@ withReduced f on = record { detect = f .detect; mitigate = f .mitigate; masks = 
 abbrev pub isLent : Masks → Bool
 isLent All = false
 isLent Lent = true
+isLent Conditions = false
+
+-- whether it asks for conditions
+abbrev pub isConditions : Masks → Bool
+isConditions All = false
+isConditions Lent = false
+isConditions Conditions = true
 
 -- whether a call looks at lent masks
 abbrev pub usesMasks : Flags → Bool
 usesMasks f = f .detect && isLent (f .masks)
+
+-- whether a call looks at lent conditions
+abbrev pub usesConditions : Flags → Bool
+usesConditions f = f .detect && isConditions (f .masks)

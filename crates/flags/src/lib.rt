@@ -1,11 +1,12 @@
 // The settings of a hasher: what the Rust's Builder holds.
 ghost use mathlib.Core.Path.{_≡_};
-ghost use Rattle.flags.specs.Flags.{isLent, usesMasks, defaults, withDetect, withMitigate, withMasks, masksOf, withReduced};
+ghost use Rattle.flags.specs.Flags.{isLent, isConditions, usesMasks, usesConditions, defaults, withDetect, withMitigate, withMasks, masksOf, conditionsOf, withReduced};
 
-// Which vectors a block is tried with: all of them, or those of the mask lent for it.
+// Which vectors a block is tried with: all of them, those of the mask lent for it, or those that survive the lent conditions.
 pub enum Masks {
     All,
     Lent,
+    Conditions,
 }
 
 // What the Rust's Builder holds.
@@ -52,7 +53,17 @@ impl Flags {
         if on {
             return with_masks(self, Masks::Lent);
         }
-        with_masks(self, Masks::All)
+        with_masks(self, Masks::All) // masks off
+    }
+
+    // Whether a block is tried only with the vectors that survive the lent conditions.
+    pub fn use_conditions(self, on: bool) -> Flags
+        ensures { λ r. ⌜ r ≡ withMasks self (conditionsOf on) ⌝ }
+    {
+        if on {
+            return with_masks(self, Masks::Conditions);
+        }
+        with_masks(self, Masks::All) // conditions off
     }
 
     // Whether a sibling that starts where the block starts marks it.
@@ -83,6 +94,18 @@ fn is_lent(masks: Masks) -> bool
     match masks {
         Masks::All => false,
         Masks::Lent => true,
+        Masks::Conditions => false,
+    }
+}
+
+// Whether the setting asks for conditions.
+fn is_conditions(masks: Masks) -> bool
+    ensures { λ r. ⌜ r ≡ isConditions masks ⌝ }
+{
+    match masks {
+        Masks::All => false,
+        Masks::Lent => false,
+        Masks::Conditions => true,
     }
 }
 
@@ -93,6 +116,17 @@ pub fn uses_masks(f: Flags) -> bool
     let masks = f.masks;
     if f.detect {
         return is_lent(masks);
+    }
+    false
+}
+
+// Whether a call looks at lent conditions.
+pub fn uses_conditions(f: Flags) -> bool
+    ensures { λ r. ⌜ r ≡ usesConditions f ⌝ }
+{
+    let masks = f.masks;
+    if f.detect {
+        return is_conditions(masks);
     }
     false
 }

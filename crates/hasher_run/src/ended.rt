@@ -1,5 +1,6 @@
 // A message given to a hasher, with the masks of its blocks lent to each call, and the ways to end it.
 ghost use mathlib.Core.Path.{_≡_};
+ghost use mathlib.Core.List.{[]};
 ghost use Prim.Native.Nat.{_<_, _≤_};
 ghost use Rattle.loan.specs.Loan.{loanOf};
 ghost use Rattle.one_shot.specs.Whole.{blocksOf};
@@ -63,15 +64,15 @@ fn piece_end(at: usize, end: usize, n: usize) -> usize
 
 // One piece. Where it is refused the hasher is as it was, and the digest will not be the message's.
 fn after_piece(h: Hasher, bytes: &[u8], table: &[u32], masks: &[u32]) -> Hasher
-    ensures { λ r. ⌜ r ≡ afterPiece h (now (bytes .entry)) (loanOf (now (table .entry)) (now (masks .entry))) ⌝ }
+    ensures { λ r. ⌜ r ≡ afterPiece h (now (bytes .entry)) (loanOf (now (table .entry)) [] (now (masks .entry))) ⌝ }
 {
-    let u = update(h, bytes, table, masks);
+    let u = update(h, bytes, table, &table[0..0], masks);
     u.hasher
 }
 
 // The hasher after a message in pieces, of the sizes of fields 6 and 7 in turn.
 pub(crate) fn in_pieces(h: Hasher, m: &[u8], line: &[u8], table: &[u32], masks: &[u32]) -> Hasher
-    ensures { λ r. ⌜ r ≡ inPieces h (now (m .entry)) (numberAt (now (line .entry)) 6) (numberAt (now (line .entry)) 7) (loanOf (now (table .entry)) (now (masks .entry))) ⌝ }
+    ensures { λ r. ⌜ r ≡ inPieces h (now (m .entry)) (numberAt (now (line .entry)) 6) (numberAt (now (line .entry)) 7) (loanOf (now (table .entry)) [] (now (masks .entry))) ⌝ }
 {
     let mut g = h;
     let mut at = 0;
@@ -90,14 +91,19 @@ pub(crate) fn in_pieces(h: Hasher, m: &[u8], line: &[u8], table: &[u32], masks: 
 
 // The finish of a message of n bytes.
 pub(crate) fn finish_after(h: Hasher, n: usize, table: &[u32], masks: &[u32]) -> Finished
-    ensures { λ r. ⌜ r ≡ finishAfter h n (loanOf (now (table .entry)) (now (masks .entry))) ⌝ }
+    ensures { λ r. ⌜ r ≡ finishAfter h n (loanOf (now (table .entry)) [] (now (masks .entry))) ⌝ }
 {
-    finish(h, table, masks_between(masks, n / 64, blocks_of(n)))
+    finish(
+        h,
+        table,
+        &table[0..0],
+        masks_between(masks, n / 64, blocks_of(n)),
+    )
 }
 
 // In pieces, a finish, and a reset.
 fn by_finish(h: Hasher, m: &[u8], line: &[u8], table: &[u32], masks: &[u32]) -> Ended
-    ensures { λ r. ⌜ r ≡ byFinish h (now (m .entry)) (numberAt (now (line .entry)) 6) (numberAt (now (line .entry)) 7) (loanOf (now (table .entry)) (now (masks .entry))) ⌝ }
+    ensures { λ r. ⌜ r ≡ byFinish h (now (m .entry)) (numberAt (now (line .entry)) 6) (numberAt (now (line .entry)) 7) (loanOf (now (table .entry)) [] (now (masks .entry))) ⌝ }
 {
     let f = finish_after(in_pieces(h, m, line, table, masks), m.len(), table, masks);
     let outcome = f.outcome;
@@ -114,7 +120,7 @@ fn by_finish(h: Hasher, m: &[u8], line: &[u8], table: &[u32], masks: &[u32]) -> 
 
 // In one piece, and a finish-and-reset.
 fn by_finish_reset(h: Hasher, m: &[u8], table: &[u32], masks: &[u32]) -> Ended
-    ensures { λ r. ⌜ r ≡ byFinishReset h (now (m .entry)) (loanOf (now (table .entry)) (now (masks .entry))) ⌝ }
+    ensures { λ r. ⌜ r ≡ byFinishReset h (now (m .entry)) (loanOf (now (table .entry)) [] (now (masks .entry))) ⌝ }
 {
     let n = m.len();
     let mut digest = [0u8; 20];
@@ -123,6 +129,7 @@ fn by_finish_reset(h: Hasher, m: &[u8], table: &[u32], masks: &[u32]) -> Ended
         g,
         &mut digest,
         table,
+        &table[0..0],
         masks_between(masks, n / 64, blocks_of(n)),
     );
     let outcome = c.outcome;
@@ -136,7 +143,7 @@ fn by_finish_reset(h: Hasher, m: &[u8], table: &[u32], masks: &[u32]) -> Ended
 
 // By the one-shot form, which takes no hasher.
 fn at_once(h: Hasher, m: &[u8], table: &[u32], masks: &[u32]) -> Ended
-    ensures { λ r. ⌜ r ≡ atOnce h (now (m .entry)) (loanOf (now (table .entry)) (now (masks .entry))) ⌝ }
+    ensures { λ r. ⌜ r ≡ atOnce h (now (m .entry)) (loanOf (now (table .entry)) [] (now (masks .entry))) ⌝ }
 {
     let d = one_shot(m, table, masks_between(masks, 0, blocks_of(m.len())));
     let outcome = d.outcome;
@@ -157,7 +164,7 @@ pub(crate) fn end_by(
     table: &[u32],
     masks: &[u32],
 ) -> Ended
-    ensures { λ r. ⌜ r ≡ endBy way h (now (m .entry)) (numberAt (now (line .entry)) 6) (numberAt (now (line .entry)) 7) (loanOf (now (table .entry)) (now (masks .entry))) ⌝ }
+    ensures { λ r. ⌜ r ≡ endBy way h (now (m .entry)) (numberAt (now (line .entry)) 6) (numberAt (now (line .entry)) 7) (loanOf (now (table .entry)) [] (now (masks .entry))) ⌝ }
 {
     if way == 0 {
         return by_finish(h, m, line, table, masks);

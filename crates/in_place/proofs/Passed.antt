@@ -1,4 +1,4 @@
--- What the walks pass: the machine values of a hasher, a refusal and both in one, and the three lent slices. Assumes nothing.
+-- What the walks pass: the machine values of a hasher, a refusal and both in one, and the four lent slices. Assumes nothing.
 use Prim.Native.Nat.{ℕ}
 use mathlib.Core.List.{[], _∷_, List}
 use lib.ListN.{length}
@@ -48,8 +48,8 @@ refusal-is r is = LL.owed U.the-type U′.the-laws r _ is .0
 abbrev pub v : RefT (List ℕ) → Val
 v s = sliceVal (s .ptr) (length (s .now))
 
--- the slices of bytes, of table words and of masks, at the function's lifetimes n₁, n₂ and n₃
-module _ (n₁ n₂ n₃ : ℕ) (κ₁ κ₂ κ₃ : Lft) (s₁ s₂ s₃ : RefT (List ℕ)) where
+-- the slices of bytes, of table words, of conditions and of masks, at the function's lifetimes n₁, n₂, n₃ and n₄
+module _ (n₁ n₂ n₃ n₄ : ℕ) (κ₁ κ₂ κ₃ κ₄ : Lft) (s₁ s₂ s₃ s₄ : RefT (List ℕ)) where
   abbrev Own₁ : Fml
   Own₁ = ShrSlice (named n₁) κ₁ u8 .own s₁ (v s₁ ∷ [])
 
@@ -59,10 +59,13 @@ module _ (n₁ n₂ n₃ : ℕ) (κ₁ κ₂ κ₃ : Lft) (s₁ s₂ s₃ : RefT
   abbrev Own₃ : Fml
   Own₃ = ShrSlice (named n₃) κ₃ u32 .own s₃ (v s₃ ∷ [])
 
+  abbrev Own₄ : Fml
+  Own₄ = ShrSlice (named n₄) κ₄ u32 .own s₄ (v s₄ ∷ [])
+
   -- what they own
   abbrev pub Slices : Fml
   Slices =
-      owns (ShrSlice (named n₁) κ₁ u8 ∷ ShrSlice (named n₂) κ₂ u32 ∷ ShrSlice (named n₃) κ₃ u32 ∷ []) (s₁, (s₂, (s₃, tt))) (v s₁ ∷ [], (v s₂ ∷ [], (v s₃ ∷ [], tt)))
+      owns (ShrSlice (named n₁) κ₁ u8 ∷ ShrSlice (named n₂) κ₂ u32 ∷ ShrSlice (named n₃) κ₃ u32 ∷ ShrSlice (named n₄) κ₄ u32 ∷ []) (s₁, (s₂, (s₃, (s₄, tt)))) (v s₁ ∷ [], (v s₂ ∷ [], (v s₃ ∷ [], (v s₄ ∷ [], tt))))
 
   -- it can be had twice: once for the callee, once to hand back
   pub slices-twice : {M : Type 1} (𝓤 : URA M) (H : Heap 𝓤) (A : Atoms 𝓤) (W : Given 𝓤 H A)
@@ -70,7 +73,8 @@ module _ (n₁ n₂ n₃ : ℕ) (κ₁ κ₂ κ₃ : Lft) (s₁ s₂ s₃ : RefT
   slices-twice 𝓤 H A W =
       qed W (‵ Slices ∷ []) ∵ fsplit ! $ use1 W (‵ Own₁ ⊛ ‵ Own₁) (shr-slice-copy 𝓤 H A W (named n₁) κ₁ u8 .twice s₁ (v s₁ ∷ [])) $ split ! $ move ! (2 ∷ []) $ fsplit ! $
       use1 W (‵ Own₂ ⊛ ‵ Own₂) (shr-slice-copy 𝓤 H A W (named n₂) κ₂ u32 .twice s₂ (v s₂ ∷ [])) $ split ! $ move ! (2 ∷ []) $ fsplit ! $
-      use1 W (‵ Own₃ ⊛ ‵ Own₃) (shr-slice-copy 𝓤 H A W (named n₃) κ₃ u32 .twice s₃ (v s₃ ∷ [])) $ split ! $
-      -- [Own₃; Own₃; true; Own₂; Own₂; Own₁; Own₁]
-      move ! (0 ∷ 2 ∷ []) $ fjoin ! $ move ! (2 ∷ 0 ∷ []) $ fjoin ! $ move ! (3 ∷ 0 ∷ []) $ fjoin ! $ frame ! $
-      nothing ! $ move ! (1 ∷ 0 ∷ []) $ fjoin ! $ move ! (1 ∷ 0 ∷ []) $ fjoin ! $ move ! (1 ∷ 0 ∷ []) $ fjoin ! $ done !
+      use1 W (‵ Own₃ ⊛ ‵ Own₃) (shr-slice-copy 𝓤 H A W (named n₃) κ₃ u32 .twice s₃ (v s₃ ∷ [])) $ split ! $ move ! (2 ∷ []) $ fsplit ! $
+      use1 W (‵ Own₄ ⊛ ‵ Own₄) (shr-slice-copy 𝓤 H A W (named n₄) κ₄ u32 .twice s₄ (v s₄ ∷ [])) $ split ! $
+      -- [Own₄; Own₄; true; Own₃; Own₃; Own₂; Own₂; Own₁; Own₁]
+      move ! (0 ∷ 2 ∷ []) $ fjoin ! $ move ! (2 ∷ 0 ∷ []) $ fjoin ! $ move ! (3 ∷ 0 ∷ []) $ fjoin ! $ move ! (4 ∷ 0 ∷ []) $ fjoin ! $ frame ! $
+      nothing ! $ move ! (1 ∷ 0 ∷ []) $ fjoin ! $ move ! (1 ∷ 0 ∷ []) $ fjoin ! $ move ! (1 ∷ 0 ∷ []) $ fjoin ! $ move ! (1 ∷ 0 ∷ []) $ fjoin ! $ done !

@@ -1,5 +1,5 @@
 -- How numbers, flags and a hasher lie in the memory that a C caller lends.
-use mathlib.Core.Bool.{Bool, _&&_}
+use mathlib.Core.Bool.{Bool, not, _&&_}
 use mathlib.Core.List.{List, [], _∷_}
 use Prim.Native.Nat.{ℕ, _+_, _*_, _/_, _%_}
 use lib.Dec.{ltb, leb, eqb}
@@ -7,8 +7,10 @@ use lib.ListN.{length, getD}
 use Rattle.word.specs.Choice.{pick}
 use Rattle.verdict.specs.declared.Verdict.{Verdict}
 use Rattle.verdict.specs.declared.Verdict.the-variants.{Ok, Mitigated, Collision}
-use Rattle.flags.specs.Flags.{masksOf, isLent}
+use Rattle.flags.specs.Flags.{conditionsOf}
 use Rattle.flags.specs.declared.Flags.{Flags}
+use Rattle.flags.specs.declared.Masks.{Masks}
+use Rattle.flags.specs.declared.Masks.the-variants.{All, Lent, Conditions}
 use Rattle.hasher.specs.declared.Hasher.{Hasher}
 
 -- a truth value as a number
@@ -19,14 +21,27 @@ bitOf b = pick b 1 0
 abbrev pub hasWorth : ℕ → ℕ → Bool
 hasWorth x worth = eqb (x / worth % 2) 1
 
--- the flags in a number: 1 detect, 2 mitigate, 4 masks lent, 8 reduced
+-- whether a number stands for flags: none beyond the five, and masks and conditions not both
+unfoldable pub flagsKnown : ℕ → Bool
+flagsKnown x = leb x 31 && not (hasWorth x 4 && hasWorth x 16)
+
+-- the masks setting in such a number: 4 masks lent, 16 conditions, else every vector
+abbrev pub masksIn : ℕ → Masks
+masksIn x = pick (hasWorth x 4) Lent (conditionsOf (hasWorth x 16))
+
+-- the flags in such a number: 1 detect, 2 mitigate, 8 reduced, and the masks setting
 unfoldable pub flagsIn : ℕ → Flags
-flagsIn x =
-    record { detect = hasWorth x 1; mitigate = hasWorth x 2; masks = masksOf (hasWorth x 4); reduced = hasWorth x 8 }
+flagsIn x = record { detect = hasWorth x 1; mitigate = hasWorth x 2; masks = masksIn x; reduced = hasWorth x 8 }
+
+-- what the masks setting is worth in such a number
+abbrev pub masksWorth : Masks → ℕ
+masksWorth All = 0
+masksWorth Lent = 4
+masksWorth Conditions = 16
 
 -- the flags as such a number
 unfoldable pub flagsNumber : Flags → ℕ
-flagsNumber f = bitOf (f .detect) + 2 * bitOf (f .mitigate) + 4 * bitOf (isLent (f .masks)) + 8 * bitOf (f .reduced)
+flagsNumber f = bitOf (f .detect) + 2 * bitOf (f .mitigate) + masksWorth (f .masks) + 8 * bitOf (f .reduced)
 
 -- the hasher that lies in its words, its pending bytes and its state: fill, blocks, mark, flags
 unfoldable pub hasherIn : List ℕ → List ℕ → List ℕ → Hasher
@@ -41,9 +56,9 @@ stateOf h = h .fill ∷ h .blocks ∷ bitOf (h .mark) ∷ flagsNumber (h .flags)
 abbrev pub slicesOf : Hasher → List (List ℕ)
 slicesOf h = h .words ∷ h .pending ∷ stateOf h ∷ []
 
--- whether a state is one that a hasher is written as: four numbers, the mark 0 or 1, no flag beyond the four
+-- whether a state is one that a hasher is written as: four numbers, the mark 0 or 1, and flags
 abbrev pub stateFits : List ℕ → Bool
-stateFits state = eqb (length state) 4 && (leb (getD state 2 0) 1 && leb (getD state 3 0) 15)
+stateFits state = eqb (length state) 4 && (leb (getD state 2 0) 1 && flagsKnown (getD state 3 0))
 
 -- whether a hasher lies in slices of so many words and pending bytes, and such a state
 abbrev pub hasherFits : ℕ → ℕ → List ℕ → Bool
@@ -51,7 +66,7 @@ hasherFits words pending state = eqb words 5 && (eqb pending 64 && stateFits sta
 
 -- whether a new hasher fits slices of so many words, pending bytes and numbers, and there are such flags
 abbrev pub newFits : ℕ → ℕ → ℕ → ℕ → Bool
-newFits words pending state flags = eqb words 5 && (eqb pending 64 && (eqb state 4 && leb flags 15))
+newFits words pending state flags = eqb words 5 && (eqb pending 64 && (eqb state 4 && flagsKnown flags))
 
 -- a verdict as a number; 0 is left for none
 abbrev pub verdictNumber : Verdict → ℕ

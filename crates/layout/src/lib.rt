@@ -5,9 +5,8 @@ ghost use mathlib.Core.Bool.{_&&_};
 ghost use Prim.Native.Nat.{_<_};
 ghost use lib.Dec.{eqb};
 ghost use lib.ListN.{length};
-ghost use Rattle.flags.specs.Flags.{isLent};
 ghost use Rattle.verdict.specs.Verdict.{digestSize};
-ghost use Rattle.layout.specs.Layout.{bitOf, hasWorth, flagsIn, flagsNumber, hasherIn, stateOf, stateFits, hasherFits, newFits, verdictNumber, verdictKnown, verdictFor};
+ghost use Rattle.layout.specs.Layout.{bitOf, hasWorth, flagsKnown, masksIn, flagsIn, masksWorth, flagsNumber, hasherIn, stateOf, stateFits, hasherFits, newFits, verdictNumber, verdictKnown, verdictFor};
 use copies::pending_in;
 use copies::put_four;
 use copies::put_pending;
@@ -37,26 +36,52 @@ pub fn has_worth(x: u64, worth: u64) -> bool
     x / worth % 2 == 1
 }
 
+// Whether a number stands for flags: masks and conditions are not both set.
+pub fn flags_known(flags: u64) -> bool
+    ensures { λ r. ⌜ r ≡ flagsKnown flags ⌝ }
+{
+    if flags > 31 {
+        return false;
+    }
+    if has_worth(flags, 4) {
+        return !has_worth(flags, 16);
+    }
+    true
+}
+
+// The masks setting that a number of flags has.
+pub fn masks_in(x: u64) -> Masks
+    ensures { λ r. ⌜ r ≡ masksIn x ⌝ }
+{
+    if has_worth(x, 4) {
+        return Masks::Lent;
+    }
+    if has_worth(x, 16) {
+        return Masks::Conditions;
+    }
+    Masks::All
+}
+
 // The flags that a number stands for, a bit for each: C passes no struct of flags.
 pub fn flags_in(x: u64) -> Flags
     ensures { λ r. ⌜ r ≡ flagsIn x ⌝ }
 {
-    let plain = Flags {
+    Flags {
         detect: has_worth(x, 1),
         mitigate: has_worth(x, 2),
-        masks: Masks::All,
+        masks: masks_in(x),
         reduced: has_worth(x, 8),
-    };
-    plain.use_ubc(has_worth(x, 4))
+    }
 }
 
-// Whether masks are lent, as a number: 1 or 0.
-pub fn masks_bit(masks: Masks) -> u64
-    ensures { λ r. ⌜ r ≡ bitOf (isLent masks) ⌝ }
+// What the masks setting is worth in a number of flags.
+pub fn masks_worth(masks: Masks) -> u64
+    ensures { λ r. ⌜ r ≡ masksWorth masks ⌝ }
 {
     match masks {
         Masks::All => 0,
-        Masks::Lent => 1,
+        Masks::Lent => 4,
+        Masks::Conditions => 16,
     }
 }
 
@@ -65,7 +90,7 @@ pub fn flags_number(f: Flags) -> u64
     ensures { λ r. ⌜ r ≡ flagsNumber f ⌝ }
 {
     let masks = f.masks;
-    bit_of(f.detect) + 2 * bit_of(f.mitigate) + 4 * masks_bit(masks) + 8 * bit_of(f.reduced)
+    bit_of(f.detect) + 2 * bit_of(f.mitigate) + masks_worth(masks) + 8 * bit_of(f.reduced)
 }
 
 // Whether a state is one that a hasher is written as: what is handed back on a refusal is then what was lent.
@@ -78,7 +103,7 @@ pub fn state_fits(state: &[u64]) -> bool
     if state[2] > 1 {
         return false;
     }
-    state[3] <= 15
+    flags_known(state[3])
 }
 
 // Whether a hasher lies in its slices, and the rest of what a call asks holds.
@@ -110,7 +135,7 @@ pub fn new_fits(words: usize, pending: usize, state: usize, flags: u64) -> bool
     if state != 4 {
         return false;
     }
-    flags <= 15
+    flags_known(flags)
 }
 
 // Whether a digest and an answer have their fixed lengths.

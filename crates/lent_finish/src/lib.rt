@@ -19,16 +19,18 @@ pub fn finish_lent(
     state: &[u64],
     digest: &mut [u8],
     table: &[u32],
+    conditions: &[u32],
     masks: &[u32],
     answer: &mut [u64],
 ) -> u32
-    ensures { λ r. ⌜ left r (now (digest .exit) ∷ now (answer .exit) ∷ []) ≡ finishCall (now (words .entry)) (now (pending .entry)) (now (state .entry)) (now (digest .entry)) (loanOf (now (table .entry)) (now (masks .entry))) (now (answer .entry)) ⌝ }
+    ensures { λ r. ⌜ left r (now (digest .exit) ∷ now (answer .exit) ∷ []) ≡ finishCall (now (words .entry)) (now (pending .entry)) (now (state .entry)) (now (digest .entry)) (loanOf (now (table .entry)) (now (conditions .entry)) (now (masks .entry))) (now (answer .entry)) ⌝ }
 {
     let fits = hasher_fits(words.len(), pending.len(), state, answer.len() == 2);
     if !fits {
         return BROKEN_AGREEMENT;
     }
-    let c = finish_and_reset(hasher_in(words, pending, state), digest, table, masks);
+    let h = hasher_in(words, pending, state);
+    let c = finish_and_reset(h, digest, table, conditions, masks);
     let o = c.outcome;
     put_outcome(answer, o)
 }
@@ -40,14 +42,16 @@ pub fn finish_and_reset_lent(
     state: &mut [u64],
     out: &mut [u8],
     table: &[u32],
+    conditions: &[u32],
     masks: &[u32],
     answer: &mut [u64],
 ) -> u32
-    ensures { λ r. ⌜ left r (now (words .exit) ∷ now (pending .exit) ∷ now (state .exit) ∷ now (out .exit) ∷ now (answer .exit) ∷ []) ≡ finishResetCall (now (words .entry)) (now (pending .entry)) (now (state .entry)) (now (out .entry)) (loanOf (now (table .entry)) (now (masks .entry))) (now (answer .entry)) ⌝ }
+    ensures { λ r. ⌜ left r (now (words .exit) ∷ now (pending .exit) ∷ now (state .exit) ∷ now (out .exit) ∷ now (answer .exit) ∷ []) ≡ finishResetCall (now (words .entry)) (now (pending .entry)) (now (state .entry)) (now (out .entry)) (loanOf (now (table .entry)) (now (conditions .entry)) (now (masks .entry))) (now (answer .entry)) ⌝ }
 {
     if !hasher_fits(words.len(), pending.len(), state, answer.len() == 2) {
         return BROKEN_AGREEMENT;
     }
-    let c = finish_and_reset(hasher_in(words, pending, state), out, table, masks);
+    let h = hasher_in(words, pending, state);
+    let c = finish_and_reset(h, out, table, conditions, masks);
     leave_finish_reset(words, pending, state, out, answer, c)
 }

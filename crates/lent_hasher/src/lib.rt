@@ -33,15 +33,17 @@ pub fn update_lent(
     state: &mut [u64],
     bytes: &[u8],
     table: &[u32],
+    conditions: &[u32],
     masks: &[u32],
     answer: &mut [u64],
 ) -> u32
-    ensures { λ r. ⌜ left r (now (words .exit) ∷ now (pending .exit) ∷ now (state .exit) ∷ now (answer .exit) ∷ []) ≡ updateCall (now (words .entry)) (now (pending .entry)) (now (state .entry)) (now (bytes .entry)) (loanOf (now (table .entry)) (now (masks .entry))) (now (answer .entry)) ⌝ }
+    ensures { λ r. ⌜ left r (now (words .exit) ∷ now (pending .exit) ∷ now (state .exit) ∷ now (answer .exit) ∷ []) ≡ updateCall (now (words .entry)) (now (pending .entry)) (now (state .entry)) (now (bytes .entry)) (loanOf (now (table .entry)) (now (conditions .entry)) (now (masks .entry))) (now (answer .entry)) ⌝ }
 {
     if !hasher_fits(words.len(), pending.len(), state, answer.len() == 2) {
         return BROKEN_AGREEMENT;
     }
-    let u = update(hasher_in(words, pending, state), bytes, table, masks);
+    let h = hasher_in(words, pending, state);
+    let u = update(h, bytes, table, conditions, masks);
     leave_updated(words, pending, state, answer, u)
 }
 

@@ -5,7 +5,9 @@ use Prim.Native.Nat.{ℕ}
 use lib.Dec.{eqb}
 use lib.ListN.{length}
 use Rattle.verdict.specs.Verdict.{digestSize}
+use Rattle.refusal.specs.declared.Refusal.{Refusal}
 use Rattle.table.specs.Table.{tableFault}
+use Rattle.conditions.specs.Conditions.{conditionFault}
 use Rattle.detect.specs.Detect.{oneBlockOf}
 use Rattle.detect.specs.declared.Mode.{Mode}
 use Rattle.loan.specs.Loan.{Loan}
@@ -25,6 +27,14 @@ oneShotCall bytes digest l answer =
     let d = digested bytes l in
     guarded (eqb (length digest) digestSize && eqb (length answer) 2) (digestLeft (d .outcome) (d .digest) digest) (digest ∷ answer ∷ [])
 
+-- the call of a check that says what is wrong
+unfoldable pub faultCall : Refusal → List ℕ → Left
+faultCall r answer = guarded (eqb (length answer) 2) (refusalLeft r) (answer ∷ [])
+
 -- the call of a table check
-unfoldable pub tableCall : List ℕ → List ℕ → Left
-tableCall table answer = guarded (eqb (length answer) 2) (refusalLeft (tableFault table)) (answer ∷ [])
+abbrev pub tableCall : List ℕ → List ℕ → Left
+tableCall table answer = faultCall (tableFault table) answer
+
+-- the call of a check of conditions
+abbrev pub conditionsCall : List ℕ → List ℕ → Left
+conditionsCall conditions answer = faultCall (conditionFault conditions) answer

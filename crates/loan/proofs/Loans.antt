@@ -1,27 +1,33 @@
 -- What is known of a loan of which nothing is refused, and that nothing is refused of one of which this is known; and each
 -- number that a loan gives, exactly when. Assumes nothing.
-use mathlib.Core.Path.{_≡_, refl, ap, _∙_}
+use mathlib.Core.Path.{_≡_, refl, sym, ap, _∙_}
 use mathlib.Core.Logic.{_↔_}
 use mathlib.Core.Bool.{Bool, true, false, not, _&&_, false≢true}
-use mathlib.Core.List.{_∷_}
+use mathlib.Core.List.{List, [], _∷_}
 use Prim.Native.Nat.{ℕ}
 use borrow.Author.Tests.{eqb-true, eqb-false, eq-eqb, ne-eqb, not-true, not-false}
 use lib.Dec.{eqb, lit<}
 use lib.ListN.{length}
 use Rattle.word.specs.Choice.{pick}
 use Rattle.word.proofs.Tests.{both-true, of-either}
-use Rattle.refusal.specs.Refusal.{numberOf, tableNumbers, oneOf}
+use Rattle.refusal.specs.Refusal.{numberOf, tableNumbers, conditionNumbers, oneOf}
+use Rattle.refusal.specs.declared.Refusal.{Refusal}
 use Rattle.refusal.specs.declared.Refusal.the-variants.{Nothing, MaskCount}
-use Rattle.refusal.proofs.Chains.{Decides, itself, inside-exactly, inside-is}
-use Rattle.refusal.proofs.Numbers.{within, apart, Among, InFront, in-front}
+use Rattle.refusal.proofs.Chains.{Decides, itself, inside-exactly, inside-is, nothing-is}
+use Rattle.refusal.proofs.Numbers.{within, outside, apart, Among, InFront, in-front, first-of-0, first-of-own, first-of-behind, first-of-among, first-of-second, first-of-first}
 use Rattle.refusal.proofs.Passed.{passed}
 use Rattle.table.specs.Table.{tableFault}
 use Rattle.table.specs.Good.{GoodTable}
-use Rattle.table.proofs.Faults.{fault-numbers}
+use Rattle.table.proofs.Faults as vectors
 use Rattle.table.proofs.Good.{table-0}
-use Rattle.flags.specs.Flags.{usesMasks}
+use Rattle.conditions.specs.Conditions.{conditionFault}
+use Rattle.conditions.specs.Good.{GoodConditions}
+use Rattle.conditions.proofs.Faults as selecting
+use Rattle.flags.specs.Flags.{isLent, isConditions, usesMasks, usesConditions}
+use Rattle.flags.specs.declared.Masks.{Masks}
+use Rattle.flags.specs.declared.Masks.the-variants.{All, Lent, Conditions}
 use Rattle.flags.specs.declared.Flags.{Flags}
-use Rattle.loan.specs.Loan.{Tables, Loan, masksWrong, tablesRefusal, loanRefusal, loanNumbers, WellCounted, Miscounted, GoodTables, VectorsGive, GoodLoan}
+use Rattle.loan.specs.Loan.{Tables, Loan, conditionsFor, masksWrong, conditionsRefusal, vectorsRefusal, tablesRefusal, loanRefusal, bothNumbers, loanNumbers, WellCounted, Miscounted, ConditionsPass, VectorsPass, GoodTables, ConditionsGive, VectorsGive, GoodLoan}
 
 right : (on : Bool) (k n : ℕ) → ((on && not (eqb k n)) ≡ false) ↔ (on ≡ true → k ≡ n)
 right true k n = (λ e u. eqb-true k n (not-false (eqb k n) e), λ h. ap not (eq-eqb k n (h refl)))
@@ -58,23 +64,92 @@ masks-decide f l blocks =
       off = masks-right f k blocks;
     }
 
--- The tables: none of their numbers where they are good or not looked at.
+-- A table, looked at or not: its numbers only where it is, and none where it is good.
+module _ (on : Bool) (fault : Refusal) (ns : List ℕ) (none : oneOf ns 0 ≡ false) (numbers : Among (0 ∷ ns) fault) (Good : Type 0) (good : (numberOf fault ≡ 0) ↔ Good) where
+  looked-among : Among (0 ∷ ns) (pick on fault Nothing)
+  looked-among = of-either (Among (0 ∷ ns)) on fault Nothing numbers refl
+
+  looked-0 : (numberOf (pick on fault Nothing) ≡ 0) ↔ (on ≡ true → Good)
+  looked-0 = by on
+    where
+      by : (b : Bool) → (numberOf (pick b fault Nothing) ≡ 0) ↔ (b ≡ true → Good)
+      by true = (λ e d. good .0 e, λ g. good .1 (g refl))
+      by false = (λ e d. absurd (false≢true d), λ g. refl)
+
+  looked-gives : (n : ℕ) → oneOf ns n ≡ true → (numberOf (pick on fault Nothing) ≡ n) ↔ ((on ≡ true) × (numberOf fault ≡ n))
+  looked-gives n i = inside-exactly (itself on) fault Nothing n (apart ns 0 n i none)
+
+-- masks and conditions are not looked at in one setting
+pub one-setting : (f : Flags) → usesConditions f ≡ true → usesMasks f ≡ true → ⊥
+one-setting f c m = by (f .masks) (both-true (f .detect) _ c .1) (both-true (f .detect) _ m .1)
+  where
+    by : (masks : Masks) → isConditions masks ≡ true → isLent masks ≡ true → ⊥
+    by All x y = false≢true x
+    by Lent x y = false≢true x
+    by Conditions x y = false≢true y
+
+-- The tables: the conditions, then the vectors. None of their numbers where they are good or not looked at.
 module _ (f : Flags) (t : Tables) where
-  tables-among : Among (0 ∷ tableNumbers) (tablesRefusal f t)
-  tables-among = of-either (Among (0 ∷ tableNumbers)) (f .detect) (tableFault (t .vectors)) Nothing (fault-numbers (t .vectors)) refl
+  conditions-0 : (numberOf (conditionsRefusal f (t .conditions)) ≡ 0) ↔ ConditionsPass f (t .conditions)
+  conditions-0 =
+      looked-0 (usesConditions f) (conditionFault (t .conditions)) conditionNumbers refl (selecting.fault-numbers (t .conditions)) (GoodConditions (t .conditions)) (selecting.conditions-0 (t .conditions))
+
+  conditions-among : Among (0 ∷ conditionNumbers) (conditionsRefusal f (t .conditions))
+  conditions-among =
+      looked-among (usesConditions f) (conditionFault (t .conditions)) conditionNumbers refl (selecting.fault-numbers (t .conditions)) (GoodConditions (t .conditions)) (selecting.conditions-0 (t .conditions))
+
+  conditions-give : (n : ℕ) → oneOf conditionNumbers n ≡ true → (numberOf (conditionsRefusal f (t .conditions)) ≡ n) ↔ ConditionsGive f t n
+  conditions-give =
+      looked-gives (usesConditions f) (conditionFault (t .conditions)) conditionNumbers refl (selecting.fault-numbers (t .conditions)) (GoodConditions (t .conditions)) (selecting.conditions-0 (t .conditions))
+
+  vectors-0 : (numberOf (vectorsRefusal f (t .vectors)) ≡ 0) ↔ VectorsPass f (t .vectors)
+  vectors-0 =
+      looked-0 (f .detect) (tableFault (t .vectors)) tableNumbers refl (vectors.fault-numbers (t .vectors)) (GoodTable (t .vectors)) (table-0 (t .vectors))
+
+  vectors-among : Among (0 ∷ tableNumbers) (vectorsRefusal f (t .vectors))
+  vectors-among =
+      looked-among (f .detect) (tableFault (t .vectors)) tableNumbers refl (vectors.fault-numbers (t .vectors)) (GoodTable (t .vectors)) (table-0 (t .vectors))
+
+  vectors-give : (n : ℕ) → oneOf tableNumbers n ≡ true → (numberOf (vectorsRefusal f (t .vectors)) ≡ n) ↔ ((f .detect ≡ true) × (numberOf (tableFault (t .vectors)) ≡ n))
+  vectors-give =
+      looked-gives (f .detect) (tableFault (t .vectors)) tableNumbers refl (vectors.fault-numbers (t .vectors)) (GoodTable (t .vectors)) (table-0 (t .vectors))
+
+  tables-among : Among (0 ∷ bothNumbers) (tablesRefusal f t)
+  tables-among =
+      first-of-among (conditionsRefusal f (t .conditions)) (vectorsRefusal f (t .vectors)) (0 ∷ bothNumbers)
+      (within (0 ∷ bothNumbers) (0 ∷ conditionNumbers) (numberOf (conditionsRefusal f (t .conditions))) refl conditions-among)
+      (within (0 ∷ bothNumbers) (0 ∷ tableNumbers) (numberOf (vectorsRefusal f (t .vectors))) refl vectors-among)
 
   tables-0 : (numberOf (tablesRefusal f t) ≡ 0) ↔ GoodTables f t
-  tables-0 = by (f .detect)
-    where
-      by : (on : Bool) → (numberOf (pick on (tableFault (t .vectors)) Nothing) ≡ 0) ↔ (on ≡ true → GoodTable (t .vectors))
-      by true = (λ e d. table-0 (t .vectors) .0 e, λ g. table-0 (t .vectors) .1 (g refl))
-      by false = (λ e d. absurd (false≢true d), λ g. refl)
+  tables-0 =
+      let b = first-of-0 (conditionsRefusal f (t .conditions)) (vectorsRefusal f (t .vectors)) in
+      (λ e. (conditions-0 .0 (b .0 e .0), vectors-0 .0 (b .0 e .1)), λ g. b .1 (conditions-0 .1 (g .0), vectors-0 .1 (g .1)))
+
+  tables-conditions : (n : ℕ) → oneOf conditionNumbers n ≡ true → (numberOf (tablesRefusal f t) ≡ n) ↔ ConditionsGive f t n
+  tables-conditions n i =
+      let o = first-of-own (conditionsRefusal f (t .conditions)) (vectorsRefusal f (t .vectors)) n (λ z. apart conditionNumbers 0 n i refl (sym z)) (λ z. apart (0 ∷ tableNumbers) n (numberOf (vectorsRefusal f (t .vectors))) vectors-among (outside (0 ∷ tableNumbers) conditionNumbers n refl i) (sym z)) in
+      (λ e. conditions-give n i .0 (o .0 e), λ g. o .1 (conditions-give n i .1 g))
+
+  tables-vectors : (n : ℕ) → oneOf tableNumbers n ≡ true → (numberOf (tablesRefusal f t) ≡ n) ↔ VectorsGive f t n
+  tables-vectors n i =
+      let o = first-of-behind (conditionsRefusal f (t .conditions)) (vectorsRefusal f (t .vectors)) n (λ z. apart (0 ∷ conditionNumbers) n (numberOf (conditionsRefusal f (t .conditions))) conditions-among (outside (0 ∷ conditionNumbers) tableNumbers n refl i) (sym z)) in
+      let v = vectors-give n i in (
+        λ e. (conditions-0 .0 (o .0 e .0), v .0 (o .0 e .1) .0, v .0 (o .0 e .1) .1),
+        λ g. o .1 (conditions-0 .1 (g .0), v .1 (g .1, g .2)),
+      )
+
+  -- the tables that pass are good where they are looked at
+  pub tables-good : tablesRefusal f t ≡ Nothing → GoodTables f t
+  tables-good e = tables-0 .0 (ap numberOf e)
+
+  pub good-tables : GoodTables f t → tablesRefusal f t ≡ Nothing
+  good-tables g = nothing-is _ (eq-eqb (numberOf (tablesRefusal f t)) 0 (tables-0 .1 g))
 
 -- The loan: 6, then the tables.
 module _ (f : Flags) (l : Loan) (blocks : ℕ) where
-  masks-first : InFront (loanRefusal f l blocks) MaskCount (tablesRefusal f (l .tables)) (Miscounted f l blocks) (WellCounted f l blocks) (0 ∷ tableNumbers)
+  masks-first : InFront (loanRefusal f l blocks) MaskCount (tablesRefusal f (l .tables)) (Miscounted f l blocks) (WellCounted f l blocks) (0 ∷ bothNumbers)
   unfolding loanRefusal
-  masks-first = in-front (masks-decide f l blocks) _ MaskCount _ (0 ∷ tableNumbers) refl (tables-among f (l .tables)) refl
+  masks-first = in-front (masks-decide f l blocks) _ MaskCount _ (0 ∷ bothNumbers) refl (tables-among f (l .tables)) refl
 
   pub loan-0 : (numberOf (loanRefusal f l blocks) ≡ 0) ↔ GoodLoan f l blocks
   loan-0 = masks-first .behind 0 _ refl (tables-0 f (l .tables))
@@ -82,15 +157,40 @@ module _ (f : Flags) (l : Loan) (blocks : ℕ) where
   pub loan-6 : (numberOf (loanRefusal f l blocks) ≡ 6) ↔ Miscounted f l blocks
   loan-6 = masks-first .at-own
 
-  pub loan-table : (n : ℕ) → oneOf tableNumbers n ≡ true → (numberOf (loanRefusal f l blocks) ≡ n) ↔ (WellCounted f l blocks × VectorsGive f (l .tables) n)
-  loan-table n t =
-      masks-first .behind n _ (within (0 ∷ tableNumbers) tableNumbers n refl t)
-      (inside-exactly (itself (f .detect)) (tableFault (l .tables .vectors)) Nothing n (apart tableNumbers 0 n t refl))
+  -- 12 and 13, where 6 is never given: the two settings exclude each other
+  pub loan-conditions : (n : ℕ) → oneOf conditionNumbers n ≡ true → (numberOf (loanRefusal f l blocks) ≡ n) ↔ ConditionsGive f (l .tables) n
+  loan-conditions n i =
+      let b = masks-first .behind n _ (within (0 ∷ bothNumbers) conditionNumbers n refl i) (tables-conditions f (l .tables) n i) in
+      (λ e. b .0 e .1, λ g. b .1 (λ u. absurd (one-setting f (g .0) u), g))
 
-  -- where the tables are looked at, what is wrong with the vectors is what is given, number and place
-  pub loan-gives : WellCounted f l blocks → f .detect ≡ true → loanRefusal f l blocks ≡ tableFault (l .tables .vectors)
-  loan-gives c d = masks-first .is c ∙ inside-is (itself (f .detect)) (tableFault (l .tables .vectors)) Nothing d
+  pub loan-table : (n : ℕ) → oneOf tableNumbers n ≡ true → (numberOf (loanRefusal f l blocks) ≡ n) ↔ (WellCounted f l blocks × VectorsGive f (l .tables) n)
+  loan-table n t = masks-first .behind n _ (within (0 ∷ bothNumbers) tableNumbers n refl t) (tables-vectors f (l .tables) n t)
+
+  -- where the conditions are looked at and bad, what is wrong with them is what is given, number and place
+  pub loan-gives-conditions : usesConditions f ≡ true → (GoodConditions (l .tables .conditions) → ⊥) → loanRefusal f l blocks ≡ conditionFault (l .tables .conditions)
+  loan-gives-conditions u b =
+      masks-first .is (λ m. absurd (one-setting f u m))
+      ∙ first-of-first (conditionsRefusal f (l .tables .conditions)) (vectorsRefusal f (l .tables .vectors)) (λ z. b (conditions-0 f (l .tables) .0 z u))
+      ∙ inside-is (itself (usesConditions f)) (conditionFault (l .tables .conditions)) Nothing u
+
+  -- where the vectors are looked at and the conditions pass, what is wrong with the vectors is what is given, number and place
+  pub loan-gives : WellCounted f l blocks → ConditionsPass f (l .tables .conditions) → f .detect ≡ true → loanRefusal f l blocks ≡ tableFault (l .tables .vectors)
+  loan-gives c p d =
+      masks-first .is c
+      ∙ first-of-second (conditionsRefusal f (l .tables .conditions)) (vectorsRefusal f (l .tables .vectors)) (conditions-0 f (l .tables) .1 p)
+      ∙ inside-is (itself (f .detect)) (tableFault (l .tables .vectors)) Nothing d
 
   -- no other number
   pub loan-only : oneOf (0 ∷ loanNumbers) (numberOf (loanRefusal f l blocks)) ≡ true
-  loan-only = within (0 ∷ loanNumbers) (6 ∷ 0 ∷ tableNumbers) (numberOf (loanRefusal f l blocks)) refl (masks-first .among)
+  loan-only = within (0 ∷ loanNumbers) (6 ∷ 0 ∷ bothNumbers) (numberOf (loanRefusal f l blocks)) refl (masks-first .among)
+
+-- The conditions that are looked at are good where the tables pass.
+pub looked-conditions : (f : Flags) (t : Tables) → tablesRefusal f t ≡ Nothing → GoodConditions (conditionsFor f (t .conditions))
+looked-conditions f t e = by (usesConditions f) (tables-good f t e .0)
+  where
+    by : (on : Bool) → (on ≡ true → GoodConditions (t .conditions)) → GoodConditions (pick on (t .conditions) [])
+    by true g = g refl
+    by false g = selecting.none-good
+
+pub accepted-conditions : (f : Flags) (l : Loan) (blocks : ℕ) → loanRefusal f l blocks ≡ Nothing → GoodConditions (conditionsFor f (l .tables .conditions))
+accepted-conditions f l blocks e = looked-conditions f (l .tables) (loan-accepted f l blocks e .good)

@@ -1,4 +1,4 @@
--- What is lent to a call, and what is refused of it. 01, "The hasher" and "Numbers a caller can get back".
+-- What is lent to a call, and what is refused of it. 01, "The hasher" and "Numbers a caller can get back"; 02, request d.
 use mathlib.Core.Path.{_≡_}
 use mathlib.Core.Bool.{Bool, true, not, _&&_}
 use mathlib.Core.List.{List, [], _∷_}
@@ -6,34 +6,37 @@ use Prim.Native.Nat.{ℕ}
 use lib.Dec.{eqb}
 use lib.ListN.{length, drop}
 use Rattle.word.specs.Choice.{pick}
-use Rattle.refusal.specs.Refusal.{numberOf, tableNumbers}
+use Rattle.refusal.specs.Refusal.{numberOf, firstOf, tableNumbers}
 use Rattle.refusal.specs.declared.Refusal.{Refusal}
 use Rattle.refusal.specs.declared.Refusal.the-variants.{Nothing, MaskCount}
 use Rattle.table.specs.Table.{tableFault}
 use Rattle.table.specs.Good.{GoodTable}
-use Rattle.flags.specs.Flags.{usesMasks}
+use Rattle.conditions.specs.Conditions.{conditionFault}
+use Rattle.conditions.specs.Good.{GoodConditions}
+use Rattle.flags.specs.Flags.{usesMasks, usesConditions}
 use Rattle.flags.specs.declared.Flags.{Flags}
 
--- the tables lent alike to every call of a message: the vectors
+-- the tables lent alike to every call of a message: the vectors, and the conditions that select among them
 pub record Tables : Type 0 where
   pub vectors : List ℕ
+  pub conditions : List ℕ
 
 -- what is lent to one call: the tables, and a mask for each block that it compresses
 pub record Loan : Type 0 where
   pub tables : Tables
   pub masks : List ℕ
 
--- the tables of a list of vectors
-abbrev pub tablesOf : List ℕ → Tables
-tablesOf vectors = record { vectors = vectors }
+-- the tables of a list of vectors and one of conditions
+abbrev pub tablesOf : List ℕ → List ℕ → Tables
+tablesOf vectors conditions = record { vectors = vectors; conditions = conditions }
 
 -- the loan of tables and masks
 abbrev pub lend : Tables → List ℕ → Loan
 lend t masks = record { tables = t; masks = masks }
 
--- the loan of a list of vectors and masks
-abbrev pub loanOf : List ℕ → List ℕ → Loan
-loanOf vectors masks = lend (tablesOf vectors) masks
+-- the loan of a list of vectors, one of conditions, and masks
+abbrev pub loanOf : List ℕ → List ℕ → List ℕ → Loan
+loanOf vectors conditions masks = lend (tablesOf vectors conditions) masks
 
 -- what is left of a loan for the blocks after the first n
 abbrev pub later : ℕ → Loan → Loan
@@ -43,21 +46,37 @@ later n l = lend (l .tables) (drop n (l .masks))
 abbrev pub lookedAt : Flags → List ℕ → List ℕ
 lookedAt f masks = pick (usesMasks f) masks []
 
+-- the conditions that a call looks at: those lent, or none
+abbrev pub conditionsFor : Flags → List ℕ → List ℕ
+conditionsFor f conditions = pick (usesConditions f) conditions []
+
 -- a wrong number of masks, where they are looked at: 6
 abbrev pub masksWrong : Flags → ℕ → ℕ → Bool
 masksWrong f k blocks = usesMasks f && not (eqb k blocks)
 
--- what is wrong with the tables, where they are looked at: 2 to 5
+-- what is wrong with the conditions, where they are looked at: 12 and 13
+abbrev pub conditionsRefusal : Flags → List ℕ → Refusal
+conditionsRefusal f conditions = pick (usesConditions f) (conditionFault conditions) Nothing
+
+-- what is wrong with the vectors, where they are looked at: 2 to 5
+abbrev pub vectorsRefusal : Flags → List ℕ → Refusal
+vectorsRefusal f vectors = pick (f .detect) (tableFault vectors) Nothing
+
+-- what is wrong with the tables: the conditions, then the vectors
 abbrev pub tablesRefusal : Flags → Tables → Refusal
-tablesRefusal f t = pick (f .detect) (tableFault (t .vectors)) Nothing
+tablesRefusal f t = firstOf (conditionsRefusal f (t .conditions)) (vectorsRefusal f (t .vectors))
 
 -- what a call that compresses so many blocks refuses of what it is lent: the masks, then the tables
 unfoldable pub loanRefusal : Flags → Loan → ℕ → Refusal
 loanRefusal f l blocks = pick (masksWrong f (length (l .masks)) blocks) MaskCount (tablesRefusal f (l .tables))
 
--- the numbers that a loan can give: 6, and those of a table
+-- the numbers that tables can give: those of the conditions, and those of the vectors
+abbrev pub bothNumbers : List ℕ
+bothNumbers = 12 ∷ 13 ∷ tableNumbers
+
+-- the numbers that a loan can give: 6, and those of the tables
 abbrev pub loanNumbers : List ℕ
-loanNumbers = 6 ∷ tableNumbers
+loanNumbers = 6 ∷ bothNumbers
 
 -- where masks are looked at, there is one for each block
 abbrev pub WellCounted : Flags → Loan → ℕ → Type 0
@@ -67,13 +86,25 @@ WellCounted f l blocks = usesMasks f ≡ true → length (l .masks) ≡ blocks
 abbrev pub Miscounted : Flags → Loan → ℕ → Type 0
 Miscounted f l blocks = (usesMasks f ≡ true) × (length (l .masks) ≡ blocks → ⊥)
 
+-- where the conditions are looked at, they are good
+abbrev pub ConditionsPass : Flags → List ℕ → Type 0
+ConditionsPass f conditions = usesConditions f ≡ true → GoodConditions conditions
+
+-- where the vectors are looked at, they are good
+abbrev pub VectorsPass : Flags → List ℕ → Type 0
+VectorsPass f vectors = f .detect ≡ true → GoodTable vectors
+
 -- where the tables are looked at, they are good
 abbrev pub GoodTables : Flags → Tables → Type 0
-GoodTables f t = f .detect ≡ true → GoodTable (t .vectors)
+GoodTables f t = ConditionsPass f (t .conditions) × VectorsPass f (t .vectors)
 
--- 2 to 5: the tables are looked at, and n is the number of what is wrong with the vectors
+-- 12 and 13: the conditions are looked at, and n is the number of what is wrong with them
+abbrev pub ConditionsGive : Flags → Tables → ℕ → Type 0
+ConditionsGive f t n = (usesConditions f ≡ true) × (numberOf (conditionFault (t .conditions)) ≡ n)
+
+-- 2 to 5: nothing is wrong with the conditions, the vectors are looked at, and n is the number of what is wrong with them
 abbrev pub VectorsGive : Flags → Tables → ℕ → Type 0
-VectorsGive f t n = (f .detect ≡ true) × (numberOf (tableFault (t .vectors)) ≡ n)
+VectorsGive f t n = ConditionsPass f (t .conditions) × (f .detect ≡ true) × (numberOf (tableFault (t .vectors)) ≡ n)
 
 -- nothing is wrong with a loan for so many blocks
 abbrev pub GoodLoan : Flags → Loan → ℕ → Type 0

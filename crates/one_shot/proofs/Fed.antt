@@ -11,7 +11,8 @@ use Rattle.refusal.specs.declared.Refusal.the-variants.{Nothing, MessageLength}
 use Rattle.refusal.proofs.Passed.{passed}
 use Rattle.fips.specs.Fips.{mostBytes}
 use Rattle.flags.specs.declared.Flags.{Flags}
-use Rattle.loan.specs.Loan.{Loan, later, loanRefusal}
+use Rattle.conditions.specs.Good.{GoodConditions}
+use Rattle.loan.specs.Loan.{Loan, conditionsFor, later, loanRefusal}
 use Rattle.stream.specs.Fold.{firstChain, folded}
 use Rattle.stream.proofs.Folded.{folded-mark, folded-blocks}
 use Rattle.hasher.specs.Hasher.{wellFormed, freshOf}
@@ -38,8 +39,8 @@ module _ (f : Flags) (n : ℕ) (l : Loan) where
   whole-refusal w = rw (le-ltb _ _ (w .short)) (w .loan)
 
 -- a new hasher can take a message that is short enough
-pub whole-ready : (f : Flags) (bytes : List ℕ) → length bytes ≤ mostBytes → Ready (freshOf f) bytes
-whole-ready f bytes s = record { fill-le = omega arith; zeros = zeros-are 64; fits = omega arith }
+pub whole-ready : (f : Flags) (bytes conditions : List ℕ) → length bytes ≤ mostBytes → GoodConditions (conditionsFor f conditions) → Ready (freshOf f) bytes conditions
+whole-ready f bytes conditions s g = record { fill-le = omega arith; zeros = zeros-are 64; fits = omega arith; selects = g }
 
 module _ (f : Flags) (bytes : List ℕ) (l : Loan) where
   -- and is well formed then

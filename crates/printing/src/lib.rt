@@ -8,6 +8,7 @@ use refusal::Refusal;
 use refusal::is_nothing;
 use refusal::number;
 use refusal::place;
+use search::Found;
 use verdict::Verdict;
 
 pub fn say(text: &[u8]) {
@@ -29,8 +30,13 @@ pub fn say_hex(bytes: &[u8]) {
     }
 }
 
-fn say_word(x: u32) {
+// A word in hex.
+pub fn say_hex_word(x: u32) {
     io::print_hex(STDOUT_FILENO, x as u64, 8);
+}
+
+fn say_word(x: u32) {
+    say_hex_word(x);
     say(b" ");
 }
 
@@ -41,6 +47,22 @@ pub fn say_words(w: [u32; 5]) {
     say_word(w[2]);
     say_word(w[3]);
     say_word(w[4]);
+}
+
+fn say_mark(mark: bool) {
+    if mark {
+        say(b"marked by ");
+    } else {
+        say(b"unmarked, place ");
+    }
+}
+
+// What came of trying a block's vectors.
+pub fn say_found(f: Found) {
+    say_mark(f.mark);
+    say_decimal(f.place as u64);
+    say(b", tried ");
+    say_decimal(f.tried as u64);
 }
 
 // A number of the paper's table, and the place of the record that decides.
@@ -102,6 +124,7 @@ fn say_masks(m: Masks) {
     match m {
         Masks::All => say(b", masks off"),
         Masks::Lent => say(b", masks on"),
+        Masks::Conditions => say(b", conditions"),
     }
 }
 

@@ -29,7 +29,7 @@ module _ (h : Hasher) (table : List ℕ) (r : Read) where
   unfolding intakeWith
   with-end e = rw e
 
-  pub with-bytes : gaveNone r ≡ false → intakeWith h table r ≡ intakeBy (updated h (bytesRead r) (loanOf table []))
+  pub with-bytes : gaveNone r ≡ false → intakeWith h table r ≡ intakeBy (updated h (bytesRead r) (loanOf table [] []))
   unfolding intakeWith
   with-bytes e = rw e
 
@@ -41,7 +41,7 @@ module _ (h : Hasher) (table : List ℕ) (r : Read) where
   -- there is more to read only after bytes that an update took
   pub record Took : Type 0 where
     pub some : gaveNone r ≡ false
-    pub accepted : updated h (bytesRead r) (loanOf table []) .refusal ≡ Nothing
+    pub accepted : updated h (bytesRead r) (loanOf table [] []) .refusal ≡ Nothing
 
   took-by : (b : Bool) → gaveNone r ≡ b → intakeWith h table r .more ≡ true → Took
   took-by true e m = absurd (false≢true (sym (ap (λ (x : Intake). x .more) (with-end e)) ∙ m))
@@ -50,7 +50,7 @@ module _ (h : Hasher) (table : List ℕ) (r : Read) where
   pub took : intakeWith h table r .more ≡ true → Took
   took = took-by (gaveNone r) refl
 
-  pub took-is : Took → intakeWith h table r ≡ noIntake (updated h (bytesRead r) (loanOf table []) .hasher)
+  pub took-is : Took → intakeWith h table r ≡ noIntake (updated h (bytesRead r) (loanOf table [] []) .hasher)
   took-is t = with-bytes (t .some) ∙ rw (t .accepted)
 
 pub intake-nil : (h : Hasher) (table : List ℕ) → intakeOf h table [] ≡ noIntake h
@@ -116,18 +116,18 @@ module _ (h : Hasher) (table : List ℕ) (r : Read) (long : length (h .pending) 
   less-by : (b : Bool) → intakeWith h table r .more ≡ b → pick b (suc (mostBytes - taken (intakeWith h table r .hasher))) 0 < suc (mostBytes - taken h)
   less-by true e =
       let t = took h table r e in
-      let a = update-taken h (bytesRead r) (loanOf table []) (t .accepted) in
+      let a = update-taken h (bytesRead r) (loanOf table [] []) (t .accepted) in
       let f = a .fits in
       let n = eqb-false (sizeRead r) 0 (t .some) in
-      rw (took-is h table r t, taken-update h (bytesRead r) (loanOf table []) a)
-      (omega (arith, taken-after h (bytesRead r) (loanOf table []) long a, length-take-le (sizeRead r) (r .buffer) (clamped-fits (r .got) (length (r .buffer)))))
+      rw (took-is h table r t, taken-update h (bytesRead r) (loanOf table [] []) a)
+      (omega (arith, taken-after h (bytesRead r) (loanOf table [] []) long a, length-take-le (sizeRead r) (r .buffer) (clamped-fits (r .got) (length (r .buffer)))))
   less-by false e = omega arith
 
   pub still-long : intakeWith h table r .more ≡ true → length (intakeWith h table r .hasher .pending) ≡ 64
   still-long e =
       let t = took h table r e in
-      rw (took-is h table r t, taken-update h (bytesRead r) (loanOf table []) (update-taken h (bytesRead r) (loanOf table []) (t .accepted)))
-      (pending-after h (bytesRead r) (loanOf table []))
+      rw (took-is h table r t, taken-update h (bytesRead r) (loanOf table [] []) (update-taken h (bytesRead r) (loanOf table [] []) (t .accepted)))
+      (pending-after h (bytesRead r) (loanOf table [] []))
 
 pub less-left : (x : Intake) (table : List ℕ) (r : Read) → x .more ≡ true → length (x .hasher .pending) ≡ 64 → turnsLeft (intakeWith (x .hasher) table r) < turnsLeft x
 less-left x table r more long = rw more (less-by (x .hasher) table r long (intakeWith (x .hasher) table r .more) refl)

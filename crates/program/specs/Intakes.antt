@@ -26,9 +26,9 @@ messageEnd got h = record { refusal = Nothing; failed = below0 got; hasher = h; 
 abbrev pub intakeBy : Updated → Intake
 intakeBy u = record { refusal = u .refusal; failed = false; hasher = u .hasher; more = isNothing (u .refusal) }
 
--- one read taken in: no byte is the end or a failure, and bytes go to an update; masks are off, so none is lent
+-- one read taken in: no byte is the end or a failure, and bytes go to an update; masks are off, so neither masks nor conditions are lent
 unfoldable pub intakeWith : Hasher → List ℕ → Read → Intake
-intakeWith h table r = pick (gaveNone r) (messageEnd (r .got) h) (intakeBy (updated h (bytesRead r) (loanOf table [])))
+intakeWith h table r = pick (gaveNone r) (messageEnd (r .got) h) (intakeBy (updated h (bytesRead r) (loanOf table [] [])))
 
 -- the reads one after the other, as long as there is more to read
 unfoldable pub intakeOf : Hasher → List ℕ → List Read → Intake

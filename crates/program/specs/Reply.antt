@@ -44,7 +44,7 @@ finishReply f = outcomeReply (f .outcome) (f .digest)
 -- the reply to what was taken in: the number of the update refused, else 16 if a read failed, else what the finish says
 unfoldable pub intakeReply : Intake → List ℕ → Reply
 intakeReply x table =
-    pick (isNothing (x .refusal)) (pick (x .failed) (withoutDigest Unread) (finishReply (finished (x .hasher) (loanOf table [])))) (withoutDigest (SayRefused (x .refusal)))
+    pick (isNothing (x .refusal)) (pick (x .failed) (withoutDigest Unread) (finishReply (finished (x .hasher) (loanOf table [] [])))) (withoutDigest (SayRefused (x .refusal)))
 
 -- the reply to a message by its reads; none as long as there is more to read
 unfoldable pub replyToMessage : Flags → List ℕ → List Read → Option Reply

@@ -60,7 +60,8 @@ pub fn intake_with(h: Hasher, table: &[u32], got: isize, buf: &[u8]) -> Intake
     if n == 0 {
         return message_end(got, h);
     }
-    let u = update(h, &buf[0..n], table, &table[0..0]);
+    let none = &table[0..0];
+    let u = update(h, &buf[0..n], table, none, none);
     let refusal = u.refusal;
     let hasher = u.hasher;
     Intake {
@@ -108,5 +109,6 @@ pub fn intake_reply(intake: Intake, table: &[u32]) -> Reply
     if intake.failed {
         return without_digest(Saying::Unread);
     }
-    finish_reply(finish(h, table, &table[0..0]))
+    let none = &table[0..0];
+    finish_reply(finish(h, table, none, none))
 }

@@ -33,8 +33,8 @@ use Rattle.program_claims.specs.Grounds.{unasked}
 use Rattle.program_claims.proofs.Verdicts.{end-says, reply-with}
 
 undetected : (f : Flags) (rs : List Read) → f .detect ≡ false → length (messageOf rs) ≤ mostBytes
-    → finishReply (hashed f (tablesOf []) (calls rs) []) ≡ record { saying = Verdict Ok; digest = sha1 (messageOf rs) }
-undetected f rs off short = ap finishReply (every-message f (tablesOf []) (calls rs) [] short off)
+    → finishReply (hashed f (tablesOf [] []) (calls rs) []) ≡ record { saying = Verdict Ok; digest = sha1 (messageOf rs) }
+undetected f rs off short = ap finishReply (every-message f (tablesOf [] []) (calls rs) [] short off)
 
 -- With no bad argument and no table, a message that is read to its end has the verdict ok and FIPS 180-4's digest, in whatever pieces it comes.
 pub no-table : (args : List Argument) (files : ℕ → File) (reads : List Read) → settingRead args .bad ≡ false → settingRead args .table ≡ false
@@ -43,7 +43,7 @@ pub no-table : (args : List Argument) (files : ℕ → File) (reads : List Read)
 no-table args files reads good off e unfailed short =
     let f = flagsOf (settingRead args) in
     reply-with args files reads good (unasked off)
-    ∙ end-says f [] reads e (none-refused-off f (tablesOf []) (calls (e .before)) [] short off .updates) unfailed
+    ∙ end-says f [] reads e (none-refused-off f (tablesOf [] []) (calls (e .before)) [] short off .updates) unfailed
     ∙ ap some (undetected f (e .before) off short)
 
 -- the line of a reply

@@ -62,7 +62,7 @@ message-only : (f : Flags) (table : List ℕ) (reads : List Read) → numberSaid
 unfolding replyToMessage intakeReply
 message-only f table reads e =
     let x = intakeOf (freshOf f) table reads in
-    let s = said (x .more) (isNothing (x .refusal)) (x .failed) (x .refusal) (finished (x .hasher) (loanOf table [])) e in
+    let s = said (x .more) (isNothing (x .refusal)) (x .failed) (x .refusal) (finished (x .hasher) (loanOf table [] [])) e in
     let p = stop table reads (freshOf f) (s .0) (nothing-is (x .refusal) (s .1)) in
     let k = intake-end-at table (freshOf f) reads (p .end) (p .passed) in
     record { end = p .end; passed = p .passed; failed = sym (ap (λ (i : Intake). i .failed) k) ∙ s .2 }

@@ -68,7 +68,7 @@ module _ (f : Flags) (table : List ℕ) (reads : List Read) where
   unfolding replyToMessage intakeReply
   verdict-read p e =
       let h = intakeOf (freshOf f) table reads in
-      let s = said (h .more) (isNothing (h .refusal)) (h .failed) (h .refusal) (finishReply (finished (h .hasher) (loanOf table []))) e in
+      let s = said (h .more) (isNothing (h .refusal)) (h .failed) (h .refusal) (finishReply (finished (h .hasher) (loanOf table [] []))) e in
       let x = stop table reads (freshOf f) (s .0) (nothing-is (h .refusal) (s .1)) in
       let k = intake-end-at table (freshOf f) reads (x .end) (x .passed) in
       let done = finish-says _ _ (rw k at (s .3)) in
@@ -82,7 +82,7 @@ module _ (f : Flags) (table : List ℕ) (reads : List Read) where
 
   -- A message that is read to its end has what the finish says, verdict or refusal.
   pub end-says : (e : Ends reads) → Passed (freshOf f) table e → below0 (e .last .got) ≡ false
-      → replyToMessage f table reads ≡ some (finishReply (hashed f (tablesOf table) (calls (e .before)) []))
+      → replyToMessage f table reads ≡ some (finishReply (hashed f (tablesOf table []) (calls (e .before)) []))
   unfolding replyToMessage intakeReply
   end-says e p u = rw (intake-end-at table (freshOf f) reads e p, u)
 

@@ -33,4 +33,4 @@ pub record Ends (reads : List Read) : Type 0 where
 
 -- the updates took all those bytes
 abbrev pub Passed : Hasher → List ℕ → {reads : List Read} → Ends reads → Type 0
-Passed h table e = piecewise h (tablesOf table) (calls (e .before)) .refusal ≡ Nothing
+Passed h table e = piecewise h (tablesOf table []) (calls (e .before)) .refusal ≡ Nothing

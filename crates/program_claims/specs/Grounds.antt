@@ -30,8 +30,8 @@ pub record ReadToEnd (f : Flags) (table : List ℕ) (reads : List Read) (v : Ver
   pub end : Ends reads
   pub ended : end .last .got ≡ pos 0
   pub passed : Passed (freshOf f) table end
-  pub verdict : hashed f (tablesOf table) (calls (end .before)) [] .outcome ≡ Done v
-  pub digested : hashed f (tablesOf table) (calls (end .before)) [] .digest ≡ digest
+  pub verdict : hashed f (tablesOf table []) (calls (end .before)) [] .outcome ≡ Done v
+  pub digested : hashed f (tablesOf table []) (calls (end .before)) [] .digest ≡ digest
 
 -- the table that the arguments ask: none, or that of a file that was read and has nothing wrong
 pub data TableOf (s : Setting) (c : Contents) : List ℕ → Type 0 where

@@ -3,13 +3,12 @@ use mathlib.Core.Path.{_≡_, refl, sym, ap, _∙_}
 use mathlib.Core.Logic.{_↔_, Iff·rfl, _⊎_, inl, inr, ⊎-elim}
 use mathlib.Core.Bool.{Bool, true, false, not, false≢true, true≢false}
 use Prim.Native.Nat.{ℕ, _≤_, _<_}
-use native.Mathlib.Omega.{arith}
 use borrow.Author.Tests.{ltb-true, ltb-false, lt-ltb, le-ltb, eqb-true, eqb-false, eq-eqb, ne-eqb}
 use lib.Dec.{ltb, eqb}
 use Rattle.word.specs.Choice.{pick}
-use Rattle.refusal.specs.Refusal.{numberOf, placeOf, isNothing}
+use Rattle.refusal.specs.Refusal.{numberOf, placeOf, isNothing, placedNumbers, oneOf}
 use Rattle.refusal.specs.declared.Refusal.{Refusal}
-use Rattle.refusal.specs.declared.Refusal.the-variants.{Nothing, HasherForm, TableLength, MaskNumber, TestStep, DmRule, MaskCount, MessageLength, Size, SheetLength, NoLane}
+use Rattle.refusal.specs.declared.Refusal.the-variants.{Nothing, HasherForm, TableLength, MaskNumber, TestStep, DmRule, MaskCount, MessageLength, Size, SheetLength, NoLane, ConditionLength, Condition}
 
 -- a test is true exactly when P holds, and false exactly when Q does
 pub record Decides (b : Bool) (P Q : Type 0) : Type 0 where
@@ -71,24 +70,26 @@ pub inside-is : {b : Bool} {P Q : Type 0} → Decides b P Q → (r s : Refusal) 
 inside-is {b = true} d r s p = refl
 inside-is {b = false} d r s p = absurd (false≢true (d .on .1 p))
 
--- a refusal is none, or has a number and either no place or a number from 3 to 5
-kind : (r : Refusal) → (r ≡ Nothing) ⊎ ((isNothing r ≡ false) × ((placeOf r ≡ 0) ⊎ ((3 ≤ numberOf r) × (numberOf r ≤ 5))))
+-- a refusal is none, or has a number and either no place or one of the numbers that name a place
+kind : (r : Refusal) → (r ≡ Nothing) ⊎ ((isNothing r ≡ false) × ((placeOf r ≡ 0) ⊎ (oneOf placedNumbers (numberOf r) ≡ true)))
 kind Nothing = inl refl
 kind HasherForm = inr (refl, inl refl)
 kind TableLength = inr (refl, inl refl)
-kind (MaskNumber i) = inr (refl, inr (omega arith, omega arith))
-kind (TestStep i) = inr (refl, inr (omega arith, omega arith))
-kind (DmRule i) = inr (refl, inr (omega arith, omega arith))
+kind (MaskNumber i) = inr (refl, inr refl)
+kind (TestStep i) = inr (refl, inr refl)
+kind (DmRule i) = inr (refl, inr refl)
 kind MaskCount = inr (refl, inl refl)
 kind MessageLength = inr (refl, inl refl)
 kind Size = inr (refl, inl refl)
 kind SheetLength = inr (refl, inl refl)
 kind NoLane = inr (refl, inl refl)
+kind ConditionLength = inr (refl, inl refl)
+kind (Condition i) = inr (refl, inr refl)
 
 -- only one refusal has the number 0
 pub nothing-is : (r : Refusal) → isNothing r ≡ true → r ≡ Nothing
 nothing-is r e = ⊎-elim (λ n. n) (λ k. absurd (true≢false (sym e ∙ k .0))) (kind r)
 
--- the place is 0 for every number but 3, 4 and 5
-pub place-none : (r : Refusal) → ((3 ≤ numberOf r) × (numberOf r ≤ 5) → ⊥) → placeOf r ≡ 0
-place-none r h = ⊎-elim (λ n. ap placeOf n) (λ k. ⊎-elim (λ z. z) (λ m. absurd (h m)) (k .1)) (kind r)
+-- the place is 0 for every number but those that name one
+pub place-none : (r : Refusal) → oneOf placedNumbers (numberOf r) ≡ false → placeOf r ≡ 0
+place-none r h = ⊎-elim (λ n. ap placeOf n) (λ k. ⊎-elim (λ z. z) (λ m. absurd (true≢false (sym m ∙ h))) (k .1)) (kind r)

@@ -4,7 +4,7 @@ use native.Mathlib.Omega.{arith}
 use lib.Dec.{lit≤}
 use Rattle.refusal.specs.Refusal.{numberOf}
 use Rattle.refusal.specs.declared.Refusal.{Refusal}
-use Rattle.refusal.specs.declared.Refusal.the-variants.{Nothing, HasherForm, TableLength, MaskNumber, TestStep, DmRule, MaskCount, MessageLength, Size, SheetLength, NoLane}
+use Rattle.refusal.specs.declared.Refusal.the-variants.{Nothing, HasherForm, TableLength, MaskNumber, TestStep, DmRule, MaskCount, MessageLength, Size, SheetLength, NoLane, ConditionLength, Condition}
 
 -- It is never 16, which is the program's own.
 pub number-low : (r : Refusal) → numberOf r ≤ 15
@@ -19,6 +19,8 @@ number-low MessageLength = lit≤ tt
 number-low Size = lit≤ tt
 number-low SheetLength = lit≤ tt
 number-low NoLane = lit≤ tt
+number-low ConditionLength = lit≤ tt
+number-low (Condition i) = lit≤ tt
 
 -- So it is written with at most two digits.
 pub number-small : (r : Refusal) → numberOf r < 100

@@ -5,7 +5,7 @@ use Prim.Native.Nat.{ℕ}
 use lib.Dec.{eqb}
 use Rattle.word.specs.Choice.{pick}
 use Rattle.refusal.specs.declared.Refusal.{Refusal}
-use Rattle.refusal.specs.declared.Refusal.the-variants.{Nothing, HasherForm, TableLength, MaskNumber, TestStep, DmRule, MaskCount, MessageLength, Size, SheetLength, NoLane}
+use Rattle.refusal.specs.declared.Refusal.the-variants.{Nothing, HasherForm, TableLength, MaskNumber, TestStep, DmRule, MaskCount, MessageLength, Size, SheetLength, NoLane, ConditionLength, Condition}
 
 -- the number in the table of 01, as amended; 0 where nothing is refused
 abbrev pub numberOf : Refusal → ℕ
@@ -20,6 +20,8 @@ numberOf MessageLength = 7
 numberOf Size = 8
 numberOf SheetLength = 9
 numberOf NoLane = 10
+numberOf ConditionLength = 12
+numberOf (Condition i) = 13
 
 -- the place, from 0, of the record that decides; 0 for the other numbers
 abbrev pub placeOf : Refusal → ℕ
@@ -34,6 +36,8 @@ placeOf MessageLength = 0
 placeOf Size = 0
 placeOf SheetLength = 0
 placeOf NoLane = 0
+placeOf ConditionLength = 0
+placeOf (Condition i) = i
 
 -- whether nothing is refused
 abbrev pub isNothing : Refusal → Bool
@@ -46,6 +50,14 @@ firstOf r s = pick (isNothing r) s r
 -- the numbers that a table can give
 abbrev pub tableNumbers : List ℕ
 tableNumbers = 2 ∷ 3 ∷ 4 ∷ 5 ∷ []
+
+-- the numbers that a table of conditions can give
+abbrev pub conditionNumbers : List ℕ
+conditionNumbers = 12 ∷ 13 ∷ []
+
+-- the numbers that name a record's place
+abbrev pub placedNumbers : List ℕ
+placedNumbers = 3 ∷ 4 ∷ 5 ∷ 13 ∷ []
 
 -- n is one of the numbers listed
 abbrev pub oneOf : List ℕ → ℕ → Bool

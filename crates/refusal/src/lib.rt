@@ -23,6 +23,10 @@ pub enum Refusal {
     SheetLength,
     // 10: the bench has no such lane, is empty or too large.
     NoLane,
+    // 12: more conditions than a table of them may have, or no whole number of them.
+    ConditionLength,
+    // 13, with the place of the first condition that names a word, a bit or a value that is not there.
+    Condition(usize),
 }
 
 // The paper's number, 0 where nothing is refused.
@@ -41,6 +45,8 @@ pub fn number(r: Refusal) -> u32
         Refusal::Size => 8,
         Refusal::SheetLength => 9,
         Refusal::NoLane => 10,
+        Refusal::ConditionLength => 12,
+        Refusal::Condition(_) => 13,
     }
 }
 
@@ -52,6 +58,7 @@ pub fn place(r: Refusal) -> usize
         Refusal::MaskNumber(i) => i,
         Refusal::TestStep(i) => i,
         Refusal::DmRule(i) => i,
+        Refusal::Condition(i) => i,
         Refusal::Nothing => 0,
         Refusal::HasherForm => 0,
         Refusal::TableLength => 0,
@@ -60,6 +67,7 @@ pub fn place(r: Refusal) -> usize
         Refusal::Size => 0,
         Refusal::SheetLength => 0,
         Refusal::NoLane => 0,
+        Refusal::ConditionLength => 0,
     }
 }
 

@@ -22,7 +22,7 @@ use printing::say_out;
 use update::update;
 
 fn head(line: &[u8]) {
-    say(from_field(line, 14));
+    say(from_field(line, 19));
     say(b": ");
 }
 
@@ -52,14 +52,22 @@ fn said(line: &[u8], given: Hasher, u: Updated) {
     say_back(given, back);
 }
 
-pub(crate) fn by_update(line: &[u8], table: &[u32], masks: &[u32]) {
+pub(crate) fn by_update(line: &[u8], table: &[u32], conditions: &[u32], masks: &[u32]) {
     let h = given_hasher(line);
-    said(line, h, update(h, given_message(line), table, masks));
+    said(
+        line,
+        h,
+        update(h, given_message(line), table, conditions, masks),
+    );
 }
 
-pub(crate) fn in_place(line: &[u8], table: &[u32], masks: &[u32]) {
+pub(crate) fn in_place(line: &[u8], table: &[u32], conditions: &[u32], masks: &[u32]) {
     let h = given_hasher(line);
-    said(line, h, through(h, given_message(line), table, masks));
+    said(
+        line,
+        h,
+        through(h, given_message(line), table, conditions, masks),
+    );
 }
 
 pub(crate) fn by_reset(line: &[u8]) {
@@ -67,9 +75,9 @@ pub(crate) fn by_reset(line: &[u8]) {
     said(line, h, reset(h));
 }
 
-pub(crate) fn by_finish(line: &[u8], table: &[u32], masks: &[u32]) {
+pub(crate) fn by_finish(line: &[u8], table: &[u32], conditions: &[u32], masks: &[u32]) {
     let h = given_hasher(line);
-    let f = finish(h, table, masks);
+    let f = finish(h, table, conditions, masks);
     let o = f.outcome;
     let digest = f.digest;
     let g = f.hasher;
@@ -79,14 +87,14 @@ pub(crate) fn by_finish(line: &[u8], table: &[u32], masks: &[u32]) {
 }
 
 // The output is lent as the front of 24 bytes; field 13 has its size.
-pub(crate) fn by_finish_reset(line: &[u8], table: &[u32], masks: &[u32]) {
+pub(crate) fn by_finish_reset(line: &[u8], table: &[u32], conditions: &[u32], masks: &[u32]) {
     let h = given_hasher(line);
     let mut out = [0xA5u8; 24];
     let size = number_at(line, 13);
     if 24 < size {
         return;
     }
-    let c = finish_and_reset(h, &mut out[0..size], table, masks);
+    let c = finish_and_reset(h, &mut out[0..size], table, conditions, masks);
     let o = c.outcome;
     let g = c.hasher;
     head(line);

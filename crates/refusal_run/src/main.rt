@@ -10,6 +10,7 @@ use call::by_finish_reset;
 use call::by_reset;
 use call::by_update;
 use call::in_place;
+use cases::conditions_of;
 use cases::from_field;
 use cases::front;
 use cases::line_at;
@@ -25,31 +26,39 @@ use printing::say_hasher;
 
 // The hasher that calls are given.
 fn say_given(line: &[u8]) {
-    say(from_field(line, 14));
+    say(from_field(line, 19));
     say(b": hasher ");
     say_hasher(given_hasher(line));
     say(b"\n");
 }
 
 // A call by its letter.
-fn by_letter(letter: u8, line: &[u8], table: &[u32], masks: &[u32]) {
+fn by_letter(letter: u8, line: &[u8], table: &[u32], conditions: &[u32], masks: &[u32]) {
     match letter {
-        b'u' => by_update(line, table, masks),
-        b'p' => in_place(line, table, masks),
+        b'u' => by_update(line, table, conditions, masks),
+        b'p' => in_place(line, table, conditions, masks),
         b'r' => by_reset(line),
-        b'f' => by_finish(line, table, masks),
-        b'c' => by_finish_reset(line, table, masks),
+        b'f' => by_finish(line, table, conditions, masks),
+        b'c' => by_finish_reset(line, table, conditions, masks),
         b'o' => at_once(line, table, masks),
         _ => say_given(line),
     }
 }
 
-// The masks select no record with mask number 0.
+// The masks select no record with mask number 0; the conditions, if there are any, drop those.
 fn call_on(letter: u8, line: &[u8]) {
     let t = records_of(line);
+    let c = conditions_of(line, 15);
     let masks = [0xFFFFFFFEu32; 3];
     let table = front(&t, number_at(line, 1));
-    by_letter(letter, line, table, front(&masks, number_at(line, 6)));
+    let conditions = front(&c, number_at(line, 14));
+    by_letter(
+        letter,
+        line,
+        table,
+        conditions,
+        front(&masks, number_at(line, 6)),
+    );
 }
 
 // A line of the cases: `#` begins a comment, `=` a title.

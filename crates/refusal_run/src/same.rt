@@ -2,8 +2,7 @@
 ghost use mathlib.Core.Path.{_≡_};
 ghost use Rattle.octets.specs.Octets.{sameBytes};
 ghost use Rattle.step.specs.Step.{regsOf, sameRegs};
-ghost use Rattle.flags.specs.Flags.{isLent};
-ghost use Rattle.refusal_run.specs.Same.{sameBit, sameFlags, sameCounts, sameHasher};
+ghost use Rattle.refusal_run.specs.Same.{sameBit, settingNumber, sameMasks, sameFlags, sameCounts, sameHasher};
 use flags::Flags;
 use flags::Masks;
 use hasher::Hasher;
@@ -32,19 +31,20 @@ fn same_bit(a: bool, b: bool) -> bool
     !b
 }
 
-fn is_lent(m: Masks) -> bool
-    ensures { λ r. ⌜ r ≡ isLent m ⌝ }
+fn setting(m: Masks) -> u8
+    ensures { λ r. ⌜ r ≡ settingNumber m ⌝ }
 {
     match m {
-        Masks::All => false,
-        Masks::Lent => true,
+        Masks::All => 0,
+        Masks::Lent => 1,
+        Masks::Conditions => 2,
     }
 }
 
 fn same_masks(m: Masks, n: Masks) -> bool
-    ensures { λ r. ⌜ r ≡ sameBit (isLent m) (isLent n) ⌝ }
+    ensures { λ r. ⌜ r ≡ sameMasks m n ⌝ }
 {
-    same_bit(is_lent(m), is_lent(n))
+    setting(m) == setting(n)
 }
 
 fn same_flags(a: Flags, b: Flags) -> bool

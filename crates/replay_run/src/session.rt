@@ -109,8 +109,8 @@ pub(crate) fn update_line(h: Hasher, line: &[u8], table: &[u32]) -> Took {
     let masks = lent.words;
     let message = bytes_front(&bytes, piece.len);
     let chosen = words_front(&masks, lent.len);
-    let u = update(h, message, table, chosen);
-    let v = through(h, message, table, chosen);
+    let u = update(h, message, table, &table[0..0], chosen);
+    let v = through(h, message, table, &table[0..0], chosen);
     let hasher = v.hasher;
     Took {
         right: both_stand(u, v, line),
@@ -172,7 +172,7 @@ pub(crate) fn finish_line(h: Hasher, line: &[u8], table: &[u32]) -> Took {
         return unread(h);
     }
     let masks = lent.words;
-    let f = finish(h, table, words_front(&masks, lent.len));
+    let f = finish(h, table, &table[0..0], words_front(&masks, lent.len));
     let outcome = f.outcome;
     let digest = f.digest;
     let hasher = f.hasher;
@@ -190,7 +190,13 @@ pub(crate) fn finish_reset_line(h: Hasher, line: &[u8], table: &[u32]) -> Took {
         return unread(h);
     }
     let masks = lent.words;
-    let c = finish_and_reset(h, &mut out, table, words_front(&masks, lent.len));
+    let c = finish_and_reset(
+        h,
+        &mut out,
+        table,
+        &table[0..0],
+        words_front(&masks, lent.len),
+    );
     let outcome = c.outcome;
     let hasher = c.hasher;
     Took {

@@ -139,11 +139,17 @@ fn audit_front(line: &[u8], m: &[u8; 320], table: &[u32; MOST_WORDS]) {
     let flags = flags_of_bits(number_at(line, 2));
     say_audit(
         line,
-        whole(flags, front_bytes(m, number_at(line, 4)), table, &[0u32]),
+        whole(
+            flags,
+            front_bytes(m, number_at(line, 4)),
+            table,
+            &[0u32],
+            &[0u32],
+        ),
     );
 }
 
-// A file hashed with the flags of field 2 and masks off, so that none is looked at, and held against the sheet's file.
+// A file hashed with the flags of field 2 and masks off, so that neither masks nor conditions are looked at, and held against the sheet's file.
 fn audit(line: &[u8], table: &[u32; MOST_WORDS]) {
     let mut m = [0u8; 320];
     let n = number_at(line, 4);

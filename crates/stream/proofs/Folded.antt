@@ -11,7 +11,7 @@ use Rattle.word.proofs.Tests.{of-either}
 use Rattle.detect.specs.declared.Mode.{Mode}
 use Rattle.flags.specs.Flags.{usesMasks}
 use Rattle.flags.specs.declared.Flags.{Flags}
-use Rattle.loan.specs.Loan.{Loan, lookedAt, later}
+use Rattle.loan.specs.Loan.{Loan, lookedAt, conditionsFor, later}
 use Rattle.stream.specs.Fold.{allBits, modeOf, checkedOf, plainOf, blockOf, chained, folded}
 use Rattle.stream.specs.declared.Chain.{Chain}
 use Rattle.stream.proofs.Plain.{chained-plain}
@@ -33,28 +33,29 @@ chained-blocks step one zero c xs ms = omega arith
 chained-blocks step one (suc n) c xs ms =
     chained-blocks step one n (step c (take 64 xs) (getD ms 0 allBits)) (drop 64 xs) (drop 1 ms) ∙ rw (one c (take 64 xs) (getD ms 0 allBits)) (omega arith)
 
-block-counts : (on : Bool) (mode : Mode) (table : List ℕ) (c : Chain) (block : List ℕ) (mask : ℕ)
-    → pick on (checkedOf mode table) plainOf c block mask .blocks ≡ c .blocks + 1
+block-counts : (on : Bool) (mode : Mode) (table conditions : List ℕ) (c : Chain) (block : List ℕ) (mask : ℕ)
+    → pick on (checkedOf mode table conditions) plainOf c block mask .blocks ≡ c .blocks + 1
 unfolding checkedOf plainOf
-block-counts true mode table c block mask = refl
-block-counts false mode table c block mask = refl
+block-counts true mode table conditions c block mask = refl
+block-counts false mode table conditions c block mask = refl
 
 -- with detection off no block leaves a mark, and with it on any mark is right
-marks-right : (on : Bool) (mode : Mode) (table : List ℕ) (n : ℕ) (c : Chain) (xs ms : List ℕ) → pick (c .mark) on true ≡ true
-    → pick (chained (pick on (checkedOf mode table) plainOf) n c xs ms .mark) on true ≡ true
-marks-right true mode table n c xs ms m = of-either (λ (b : Bool). b ≡ true) (chained (checkedOf mode table) n c xs ms .mark) true true refl refl
-marks-right false mode table n c xs ms m = rw (chained-plain n c xs ms) m
+marks-right : (on : Bool) (mode : Mode) (table conditions : List ℕ) (n : ℕ) (c : Chain) (xs ms : List ℕ) → pick (c .mark) on true ≡ true
+    → pick (chained (pick on (checkedOf mode table conditions) plainOf) n c xs ms .mark) on true ≡ true
+marks-right true mode table conditions n c xs ms m =
+    of-either (λ (b : Bool). b ≡ true) (chained (checkedOf mode table conditions) n c xs ms .mark) true true refl refl
+marks-right false mode table conditions n c xs ms m = rw (chained-plain n c xs ms) m
 
 module _ (f : Flags) (l : Loan) (c : Chain) where
   -- a chain that has a mark only with detection on stays so
   pub folded-mark : (xs : List ℕ) → pick (c .mark) (f .detect) true ≡ true → pick (folded f l c xs .mark) (f .detect) true ≡ true
   unfolding folded
-  folded-mark xs = marks-right (f .detect) (modeOf f) (l .tables .vectors) (length xs / 64) c xs (lookedAt f (l .masks))
+  folded-mark xs = marks-right (f .detect) (modeOf f) (l .tables .vectors) (conditionsFor f (l .tables .conditions)) (length xs / 64) c xs (lookedAt f (l .masks))
 
   pub folded-blocks : (xs : List ℕ) → folded f l c xs .blocks ≡ c .blocks + length xs / 64
   unfolding folded
   folded-blocks xs =
-      chained-blocks (blockOf f (l .tables)) (block-counts (f .detect) (modeOf f) (l .tables .vectors)) (length xs / 64) c xs (lookedAt f (l .masks))
+      chained-blocks (blockOf f (l .tables)) (block-counts (f .detect) (modeOf f) (l .tables .vectors) (conditionsFor f (l .tables .conditions))) (length xs / 64) c xs (lookedAt f (l .masks))
 
   pub folded-is : (xs : List ℕ) → folded f l c xs ≡ chained (blockOf f (l .tables)) (length xs / 64) c xs (lookedAt f (l .masks))
   unfolding folded

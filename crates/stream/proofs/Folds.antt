@@ -17,9 +17,10 @@ getD-any (x ∷ xs) zero d e h = refl
 getD-any (x ∷ xs) (suc i) d e h = getD-any xs i d e (le-of-suc-le-suc h)
 
 -- a block counts as one
-pub checked-blocks : (mode : Mode) (table : List ℕ) (c : Chain) (block : List ℕ) (mask : ℕ) → checkedOf mode table c block mask .blocks ≡ c .blocks + 1
+pub checked-blocks : (mode : Mode) (table conditions : List ℕ) (c : Chain) (block : List ℕ) (mask : ℕ)
+    → checkedOf mode table conditions c block mask .blocks ≡ c .blocks + 1
 unfolding checkedOf
-checked-blocks mode table c block mask = refl
+checked-blocks mode table conditions c block mask = refl
 
 module _ (step : Chain → List ℕ → ℕ → Chain) where
   -- no block, and one block more

@@ -6,12 +6,12 @@ use lib.ListN.{length, getD, take, drop}
 use Rattle.word.specs.Choice.{pick}
 use Rattle.block.specs.Compress.{compressOf}
 use Rattle.table.specs.Limits.{maskBits}
-use Rattle.detect.specs.Detect.{answerOf}
+use Rattle.detect.specs.Detect.{selectionOf, answerOf}
 use Rattle.detect.specs.declared.Answer.{Answer}
 use Rattle.detect.specs.declared.Mode.{Mode}
 use Rattle.fips.specs.Fips.{initial}
 use Rattle.flags.specs.declared.Flags.{Flags}
-use Rattle.loan.specs.Loan.{Tables, Loan, lookedAt}
+use Rattle.loan.specs.Loan.{Tables, Loan, lookedAt, conditionsFor}
 use Rattle.stream.specs.declared.Chain.{Chain}
 
 -- the mask of a block for which none is lent: every bit
@@ -30,9 +30,9 @@ firstChain = record { words = initial; mark = false; blocks = 0 }
 abbrev pub linked : Chain → Answer → Chain
 linked c a = record { words = a .words; mark = c .mark || a .found .mark; blocks = c .blocks + 1 }
 
--- the chain after one block with detection
-unfoldable pub checkedOf : Mode → List ℕ → Chain → List ℕ → ℕ → Chain
-checkedOf mode table c block mask = linked c (answerOf mode table (c .words) block mask)
+-- the chain after one block with detection, tried with the vectors that its mask and the conditions select
+unfoldable pub checkedOf : Mode → List ℕ → List ℕ → Chain → List ℕ → ℕ → Chain
+checkedOf mode table conditions c block mask = linked c (answerOf mode table (c .words) block (selectionOf conditions block mask))
 
 -- the chain after one block with detection off: the plain compression, whatever is lent
 unfoldable pub plainOf : Chain → List ℕ → ℕ → Chain
@@ -40,7 +40,7 @@ plainOf c block mask = record { words = compressOf (c .words) block; mark = c .m
 
 -- the chain after one block, as the flags say
 abbrev pub blockOf : Flags → Tables → Chain → List ℕ → ℕ → Chain
-blockOf f t = pick (f .detect) (checkedOf (modeOf f) (t .vectors)) plainOf
+blockOf f t = pick (f .detect) (checkedOf (modeOf f) (t .vectors) (conditionsFor f (t .conditions))) plainOf
 
 -- the chain after the first n blocks of xs, block i with mask i, by any step
 unfoldable pub chained : (Chain → List ℕ → ℕ → Chain) → ℕ → Chain → List ℕ → List ℕ → Chain

@@ -2,12 +2,14 @@
 ghost use mathlib.Core.Path.{_≡_};
 ghost use Prim.Native.Nat.{_+_, _/_, _^_, _<_};
 ghost use lib.ListN.{length, getD};
-ghost use Rattle.loan.specs.Loan.{loanOf};
+ghost use Rattle.conditions.specs.Good.{GoodConditions};
+ghost use Rattle.loan.specs.Loan.{loanOf, conditionsFor};
 ghost use Rattle.stream.specs.Fold.{allBits, checkedOf, chained, folded};
 use detect::Mode;
 use detect::compress;
 use fips::hash_blocks;
 use flags::Flags;
+use loan::conditions_for;
 use loan::looked_at;
 use step::Regs;
 
@@ -29,12 +31,20 @@ fn mask_at(masks: &[u32], i: usize) -> u32
 }
 
 // One block with detection: a mark stays.
-fn checked(mode: Mode, table: &[u32], c: Chain, block: &[u8], mask: u32) -> Chain
+fn checked(
+    mode: Mode,
+    table: &[u32],
+    conditions: &[u32],
+    c: Chain,
+    block: &[u8],
+    mask: u32,
+) -> Chain
     requires { ⌜ length (now block) ≡ 64 ⌝ }
+    requires { ⌜ GoodConditions (now conditions) ⌝ }
     requires { ⌜ c .blocks + 1 < 2 ^ 64 ⌝ }
-    ensures { λ r. ⌜ r ≡ checkedOf mode (now (table .entry)) c (now (block .entry)) mask ⌝ }
+    ensures { λ r. ⌜ r ≡ checkedOf mode (now (table .entry)) (now (conditions .entry)) c (now (block .entry)) mask ⌝ }
 {
-    let a = compress(mode, table, c.words, block, mask);
+    let a = compress(mode, table, conditions, c.words, block, mask);
     let words = a.words;
     let found = a.found;
     let blocks = c.blocks + 1;
@@ -46,29 +56,59 @@ fn checked(mode: Mode, table: &[u32], c: Chain, block: &[u8], mask: u32) -> Chai
 }
 
 // The whole blocks of m, detection on, block i with mask i.
-fn fold_checked(mode: Mode, table: &[u32], start: Chain, m: &[u8], masks: &[u32]) -> Chain
+fn fold_checked(
+    mode: Mode,
+    table: &[u32],
+    conditions: &[u32],
+    start: Chain,
+    m: &[u8],
+    masks: &[u32],
+) -> Chain
     requires { ⌜ start .blocks + length (now m) / 64 < 2 ^ 64 ⌝ }
-    ensures { λ r. ⌜ r ≡ chained (checkedOf mode (now (table .entry))) (length (now (m .entry)) / 64) start (now (m .entry)) (now (masks .entry)) ⌝ }
+    requires { ⌜ GoodConditions (now conditions) ⌝ }
+    ensures { λ r. ⌜ r ≡ chained (checkedOf mode (now (table .entry)) (now (conditions .entry))) (length (now (m .entry)) / 64) start (now (m .entry)) (now (masks .entry)) ⌝ }
 {
     let mut c = start;
     for i in 0..m.len() / 64 {
         let at = 64 * i;
-        c = checked(mode, table, c, &m[at..at + 64], mask_at(masks, i));
+        c = checked(
+            mode,
+            table,
+            conditions,
+            c,
+            &m[at..at + 64],
+            mask_at(masks, i),
+        );
     }
     c
 }
 
 // The whole blocks of m. Detection off has a loop of its own: one for both settings would cost a third more time.
-pub fn fold_blocks(f: Flags, table: &[u32], c: Chain, m: &[u8], masks: &[u32]) -> Chain
+pub fn fold_blocks(
+    f: Flags,
+    table: &[u32],
+    conditions: &[u32],
+    c: Chain,
+    m: &[u8],
+    masks: &[u32],
+) -> Chain
     requires { ⌜ c .blocks + length (now m) / 64 < 2 ^ 64 ⌝ }
-    ensures { λ r. ⌜ r ≡ folded f (loanOf (now (table .entry)) (now (masks .entry))) c (now (m .entry)) ⌝ }
+    requires { ⌜ GoodConditions (conditionsFor f (now conditions)) ⌝ }
+    ensures { λ r. ⌜ r ≡ folded f (loanOf (now (table .entry)) (now (conditions .entry)) (now (masks .entry))) c (now (m .entry)) ⌝ }
 {
     if f.detect {
         let mode = Mode {
             mitigate: f.mitigate,
             reduced: f.reduced,
         };
-        return fold_checked(mode, table, c, m, looked_at(f, masks));
+        return fold_checked(
+            mode,
+            table,
+            conditions_for(f, conditions),
+            c,
+            m,
+            looked_at(f, masks),
+        );
     }
     let n = m.len() / 64;
     Chain {

@@ -14,8 +14,14 @@ use refusal::is_nothing;
 pub const MOST_BYTES: u64 = 0x1FFFFFFFFFFFFFFF;
 
 // What an update refuses.
-fn update_refusal(h: Hasher, bytes: &[u8], table: &[u32], masks: &[u32]) -> Refusal
-    ensures { λ r. ⌜ r ≡ updateRefusal h (now (bytes .entry)) (loanOf (now (table .entry)) (now (masks .entry))) ⌝ }
+fn update_refusal(
+    h: Hasher,
+    bytes: &[u8],
+    table: &[u32],
+    conditions: &[u32],
+    masks: &[u32],
+) -> Refusal
+    ensures { λ r. ⌜ r ≡ updateRefusal h (now (bytes .entry)) (loanOf (now (table .entry)) (now (conditions .entry)) (now (masks .entry))) ⌝ }
 {
     if !well_formed(h) {
         return Refusal::HasherForm;
@@ -26,18 +32,18 @@ fn update_refusal(h: Hasher, bytes: &[u8], table: &[u32], masks: &[u32]) -> Refu
     if MOST_BYTES - before < (bytes.len() as u64) {
         return Refusal::MessageLength;
     }
-    loan_refusal(flags, table, masks, (fill + bytes.len()) / 64)
+    loan_refusal(flags, table, conditions, masks, (fill + bytes.len()) / 64)
 }
 
 // A piece of the message.
-pub fn update(h: Hasher, bytes: &[u8], table: &[u32], masks: &[u32]) -> Updated
-    ensures { λ r. ⌜ r ≡ updated h (now (bytes .entry)) (loanOf (now (table .entry)) (now (masks .entry))) ⌝ }
+pub fn update(h: Hasher, bytes: &[u8], table: &[u32], conditions: &[u32], masks: &[u32]) -> Updated
+    ensures { λ r. ⌜ r ≡ updated h (now (bytes .entry)) (loanOf (now (table .entry)) (now (conditions .entry)) (now (masks .entry))) ⌝ }
 {
-    let r = update_refusal(h, bytes, table, masks);
+    let r = update_refusal(h, bytes, table, conditions, masks);
     if is_nothing(r) {
         return Updated {
             refusal: r,
-            hasher: absorb(h, bytes, table, masks),
+            hasher: absorb(h, bytes, table, conditions, masks),
         };
     }
     Updated {

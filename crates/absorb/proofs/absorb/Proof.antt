@@ -20,7 +20,7 @@ sizes : (c : tie.Start) → (length (c .args .h .pending) ≡ 64) × (length (c 
 sizes c = (search needs, search needs)
 
 -- the chain is the hasher's, and so is its block count
-counted : (c : tie.After-chain) → c .chain .result .blocks ≡ c .before .before .before .before .before .args .h .blocks
+counted : (c : tie.After-chain) → c .chain .result .blocks ≡ c .before .before .before .before .before .before .args .h .blocks
 counted c = ap (λ (x : Chain). x .blocks) (c .chain .ensures)
 
 chain-requires : tie.Need-chain-requires
@@ -28,9 +28,9 @@ chain-requires c κs = search needs
 
 advance-requires : tie.Need-advance-requires
 advance-requires c κs =
-    let z = c .before .before .before .before .before .before in
+    let z = c .before .before .before .before .before .before .before in
     let p = z .pre in
-    omega (arith, p .fits, counted (c .before))
+    (omega (arith, p .fits, counted (c .before)), p .selects)
 
 returns : tie.Need-returns
 unfolding absorbed
@@ -46,7 +46,7 @@ slice-aggregate-store c = search needs
 
 store-requires : tie.Need-store-requires
 store-requires c κs =
-    let z = c .before .before .before .before .before .before .before .before .before in
+    let z = c .before .before .before .before .before .before .before .before .before .before in
     let l = sizes z .0 in
     (omega arith, omega arith)
 
@@ -61,7 +61,7 @@ unfolding absorbed
 returns-2 c =
     let s = c .before .before in
     let k = s .before .before .before .before .before in
-    let z = k .before .before .before .before .before in
+    let z = k .before .before .before .before .before .before in
     let h = z .args .h in
     let d = z .args .bytes .now in
     let l = sizes z .0 in
@@ -70,7 +70,7 @@ returns-2 c =
       c .at .ensures,
       s .store .ensures,
       k .chain .ensures,
-      advanced-none (h .flags) (loanOf (z .args .table .now) (z .args .masks .now)) (chainOf h) (streamOf h d) (omega arith),
+      advanced-none (h .flags) (loanOf (z .args .table .now) (z .args .conditions .now) (z .args .masks .now)) (chainOf h) (streamOf h d) (omega arith),
       pend-more (h .pending) d (h .fill) l (z .pre .fill-le) (z .pre .zeros) (omega arith),
       e,
     )
@@ -80,7 +80,7 @@ slice-aggregate-store-2 c = search needs
 
 store-requires-2 : tie.Need-store-requires-2
 store-requires-2 c κs =
-    let z = c .before .before .before .before .before .before .before .before .before in
+    let z = c .before .before .before .before .before .before .before .before .before .before in
     let l = sizes z .0 in
     (omega (arith, z .pre .fill-le), omega arith)
 
@@ -90,9 +90,9 @@ slice-aggregate-fold-blocks c = search needs
 fold-blocks-requires : tie.Need-fold-blocks-requires
 fold-blocks-requires c κs =
     let k = c .before .before .before .before .before .before .before in
-    let z = k .before .before .before .before .before in
+    let z = k .before .before .before .before .before .before in
     let l : length (c .before .before .store2 .last .0) ≡ 64 = search needs in
-    omega (arith, z .pre .fits, counted k)
+    (omega (arith, z .pre .fits, counted k), z .pre .selects)
 
 sub-advance : tie.Need-sub-advance
 sub-advance c = search needs
@@ -111,11 +111,11 @@ advance-requires-2 c κs =
     let f = c .before .before in
     let s = f .before .before .before in
     let k = s .before .before .before .before .before in
-    let z = k .before .before .before .before .before in
+    let z = k .before .before .before .before .before .before in
     let d = z .args .bytes .now in
     let l : length (s .store2 .last .0) ≡ 64 = search needs in
     let e = ap (λ (x : Chain). x .blocks) (f .fold-blocks .ensures) ∙ folded-blocks _ _ _ _ in
-    rw (tail-is d (64 - z .args .h .fill)) (omega (arith, z .pre .fits, z .pre .fill-le, counted k, e, length-drop (64 - z .args .h .fill) d))
+    (rw (tail-is d (64 - z .args .h .fill)) (omega (arith, z .pre .fits, z .pre .fill-le, counted k, e, length-drop (64 - z .args .h .fill) d)), z .pre .selects)
 
 returns-3 : tie.Need-returns-3
 unfolding absorbed
@@ -123,7 +123,7 @@ returns-3 c =
     let f = c .before .before .before in
     let s = f .before .before .before in
     let k = s .before .before .before .before .before in
-    let z = k .before .before .before .before .before in
+    let z = k .before .before .before .before .before .before in
     let h = z .args .h in
     let d = z .args .bytes .now in
     let l = sizes z .0 in
@@ -138,7 +138,7 @@ returns-3 c =
       tail-is d (64 - h .fill),
       pend-full (h .pending) d (h .fill) l (z .pre .fill-le) g,
     )
-    (sym (advanced-join (h .flags) (loanOf (z .args .table .now) (z .args .masks .now)) (chainOf h) 1 _ (drop (64 - h .fill) d) b))
+    (sym (advanced-join (h .flags) (loanOf (z .args .table .now) (z .args .conditions .now) (z .args .masks .now)) (chainOf h) 1 _ (drop (64 - h .fill) d) b))
 
 pub absorb-spec : {M : Type 1} → statement M
 absorb-spec =

@@ -40,7 +40,7 @@ returns : tie.Need-returns
 unfolding advanced
 returns c =
     let o = c .before .before in
-    let a = o .before .before .before .before .before .before .before .args in
+    let a = o .before .before .before .before .before .before .before .before .args in
     let s = a .s .now in
     let n = length s / 64 in
     let l : length s - 64 * n ≡ length (drop (64 * n) s) = sym (length-drop (64 * n) s) in

@@ -70,7 +70,7 @@ use Rattle.bench.proofs.lane_finish.Statement as stated
 use Rattle.bench.proofs.lane_finish.Code as code
 
 abbrev stayed : Stays (f.ended .signature .params) (f.ended .kept)
-stayed = (stay-slice (0 ∷ []) tt (plain (λ _. T.the-row)), (stay-none (λ _. usize) yes, (gave-slice (1 ∷ []) tt (plain (λ _. u8)), (stay-none-slice (2 ∷ []) tt (plain (λ _. u32)) yes, (stay-none-slice (3 ∷ []) tt (plain (λ _. u32)) yes, tt)))))
+stayed = (stay-slice (0 ∷ []) tt (plain (λ _. T.the-row)), (stay-none (λ _. usize) yes, (gave-slice (1 ∷ []) tt (plain (λ _. u8)), (stay-none-slice (2 ∷ []) tt (plain (λ _. u32)) yes, (stay-none-slice (3 ∷ []) tt (plain (λ _. u32)) yes, (stay-none-slice (4 ∷ []) tt (plain (λ _. u32)) yes, tt))))))
 
 -- the contract that the proof cites
 abbrev Fin : {M : Type 1} (𝓤 : URA M) (H : Heap 𝓤) (A : Atoms 𝓤) (mem : Memory → SProp 𝓤) (run : Routine → Fun 𝓤) → Contract 𝓤
@@ -94,24 +94,24 @@ outcome-is r is = LL.owed U.the-type U′.the-laws r _ is .0
 refused-is : Is O.the-row (Refused NoLane) (machO (Refused NoLane) ∷ [])
 refused-is = EL.owes O.the-type O′.the-laws (Refused NoLane) (no-lane-is, tt)
 
-module _ {M : Type 1} (𝓤 : URA M) (H : Heap 𝓤) (A : Atoms 𝓤) (W : Given 𝓤 H A) (at-mem : Memory → SProp 𝓤) (run : Routine → Fun 𝓤) (κ κ₁ κ₂ κ₃ : Lft) (q q₁ q₂ q₃ : Share) (b o : ℕ) (γ : GName) (ys : List Hasher) (lane : ℕ) (s₁ s₂ s₃ : RefT (List ℕ)) where
+module _ {M : Type 1} (𝓤 : URA M) (H : Heap 𝓤) (A : Atoms 𝓤) (W : Given 𝓤 H A) (at-mem : Memory → SProp 𝓤) (run : Routine → Fun 𝓤) (κ κ₁ κ₂ κ₃ κ₄ : Lft) (q q₁ q₂ q₃ q₄ : Share) (b o : ℕ) (γ : GName) (ys : List Hasher) (lane : ℕ) (s₁ s₂ s₃ s₄ : RefT (List ℕ)) where
   abbrev Arg : Type 0
-  Arg = RefT (List Hasher) × (ℕ × (RefT (List ℕ) × (RefT (List ℕ) × (RefT (List ℕ) × Unit {0}))))
+  Arg = RefT (List Hasher) × (ℕ × (RefT (List ℕ) × (RefT (List ℕ) × (RefT (List ℕ) × (RefT (List ℕ) × Unit {0})))))
 
   abbrev x : Arg
-  x = (lentBench κ b o γ ys ys, (lane, (s₁, (s₂, (s₃, tt)))))
+  x = (lentBench κ b o γ ys ys, (lane, (s₁, (s₂, (s₃, (s₄, tt))))))
 
   abbrev w : Val
   w = vb κ b o γ ys
 
   abbrev Vs : Type 0
-  Vs = List Val × (List Val × Unit {0})
+  Vs = List Val × (List Val × (List Val × Unit {0}))
 
-  abbrev vals₂ : Vs
-  vals₂ = (v s₂ ∷ [], (v s₃ ∷ [], tt))
+  abbrev vals₃ : Vs
+  vals₃ = (v s₂ ∷ [], (v s₃ ∷ [], (v s₄ ∷ [], tt)))
 
   abbrev vals : List Val × (List Val × (List Val × Vs))
-  vals = (w ∷ [], (vint w64 lane ∷ [], (v s₁ ∷ [], vals₂)))
+  vals = (w ∷ [], (vint w64 lane ∷ [], (v s₁ ∷ [], vals₃)))
 
   -- what `out` owns; what the shared slices own, and that it can be had twice
   abbrev Out : Fml
@@ -123,15 +123,20 @@ module _ {M : Type 1} (𝓤 : URA M) (H : Heap 𝓤) (A : Atoms 𝓤) (W : Given
   abbrev Own₃ : Fml
   Own₃ = ShrSlice (named 3) κ₃ u32 .own s₃ (v s₃ ∷ [])
 
+  abbrev Own₄ : Fml
+  Own₄ = ShrSlice (named 4) κ₄ u32 .own s₄ (v s₄ ∷ [])
+
   abbrev Rest : Fml
-  Rest = owns (ShrSlice (named 2) κ₂ u32 ∷ ShrSlice (named 3) κ₃ u32 ∷ []) (s₂, (s₃, tt)) vals₂
+  Rest = owns (ShrSlice (named 2) κ₂ u32 ∷ ShrSlice (named 3) κ₃ u32 ∷ ShrSlice (named 4) κ₄ u32 ∷ []) (s₂, (s₃, (s₄, tt))) vals₃
 
   rest-twice : ent 𝓤 (sem 𝓤 H A Rest) (sep 𝓤 (sem 𝓤 H A Rest) (sem 𝓤 H A Rest))
   rest-twice =
       qed W (‵ Rest ∷ []) ∵ fsplit ! $ use1 W (‵ Own₂ ⊛ ‵ Own₂) (shr-slice-copy 𝓤 H A W (named 2) κ₂ u32 .twice s₂ (v s₂ ∷ [])) $ split ! $ move ! (2 ∷ []) $ fsplit ! $
-      use1 W (‵ Own₃ ⊛ ‵ Own₃) (shr-slice-copy 𝓤 H A W (named 3) κ₃ u32 .twice s₃ (v s₃ ∷ [])) $ split ! $
-      -- [Own₃; Own₃; true; Own₂; Own₂]
-      move ! (0 ∷ 2 ∷ []) $ fjoin ! $ move ! (2 ∷ 0 ∷ []) $ fjoin ! $ frame ! $ nothing ! $ move ! (1 ∷ 0 ∷ []) $ fjoin ! $ move ! (1 ∷ 0 ∷ []) $ fjoin ! $ done !
+      use1 W (‵ Own₃ ⊛ ‵ Own₃) (shr-slice-copy 𝓤 H A W (named 3) κ₃ u32 .twice s₃ (v s₃ ∷ [])) $ split ! $ move ! (2 ∷ []) $ fsplit ! $
+      use1 W (‵ Own₄ ⊛ ‵ Own₄) (shr-slice-copy 𝓤 H A W (named 4) κ₄ u32 .twice s₄ (v s₄ ∷ [])) $ split ! $
+      -- [Own₄; Own₄; true; Own₃; Own₃; Own₂; Own₂]
+      move ! (0 ∷ 2 ∷ []) $ fjoin ! $ move ! (2 ∷ 0 ∷ []) $ fjoin ! $ move ! (3 ∷ 0 ∷ []) $ fjoin ! $ frame ! $
+      nothing ! $ move ! (1 ∷ 0 ∷ []) $ fjoin ! $ move ! (1 ∷ 0 ∷ []) $ fjoin ! $ move ! (1 ∷ 0 ∷ []) $ fjoin ! $ done !
 
   -- `out`, not passed on: its last list is the one it had
   out-kept : ent 𝓤 (sem 𝓤 H A Out) (sem 𝓤 H A (finally u8 (s₁ .name) (s₁ .now)))
@@ -142,10 +147,10 @@ module _ {M : Type 1} (𝓤 : URA M) (H : Heap 𝓤) (A : Atoms 𝓤) (W : Given
 
   -- the tokens of the slices' lifetimes
   abbrev Toks : Item 𝓤
-  Toks = ‵ (flft κ₁ q₁) ⊛ ‵ (flft κ₂ q₂) ⊛ ‵ (flft κ₃ q₃) ⊛ ‵ ftrue
+  Toks = ‵ (flft κ₁ q₁) ⊛ ‵ (flft κ₂ q₂) ⊛ ‵ (flft κ₃ q₃) ⊛ ‵ (flft κ₄ q₄) ⊛ ‵ ftrue
 
   abbrev l : Loan
-  l = loanOf (s₂ .now) (s₃ .now)
+  l = loanOf (s₂ .now) (s₃ .now) (s₄ .now)
 
   abbrev h : Hasher
   h = laneOf ys lane
@@ -157,11 +162,11 @@ module _ {M : Type 1} (𝓤 : URA M) (H : Heap 𝓤) (A : Atoms 𝓤) (W : Given
   wrote = writtenOut h (s₁ .now) l
 
   abbrev Post : Val → SProp 𝓤
-  Post = walkOf 𝓤 H A f.ended stayed (f.clauses 𝓤 H A at-mem run) .post (((κ, (κ₁, (κ₂, (κ₃, tt)))), (q, (q₁, (q₂, (q₃, tt)))), tt, x, vals), tt)
+  Post = walkOf 𝓤 H A f.ended stayed (f.clauses 𝓤 H A at-mem run) .post (((κ, (κ₁, (κ₂, (κ₃, (κ₄, tt))))), (q, (q₁, (q₂, (q₃, (q₄, tt))))), tt, x, vals), tt)
 
   -- the call of `finish_and_reset`
   abbrev to : Fin 𝓤 H A at-mem run .Ghost
-  to = (((κ₁, (κ₂, (κ₃, tt))), (q₁, (q₂, (q₃, tt))), tt, (h, (s₁, (s₂, (s₃, tt)))), (mach h ∷ [], (v s₁ ∷ [], vals₂))), tt)
+  to = (((κ₁, (κ₂, (κ₃, (κ₄, tt)))), (q₁, (q₂, (q₃, (q₄, tt)))), tt, (h, (s₁, (s₂, (s₃, (s₄, tt))))), (mach h ∷ [], (v s₁ ∷ [], vals₃))), tt)
 
   asked : Is T.the-row h (mach h ∷ []) → ent 𝓤 (⋆ 𝓤 H A (Toks ∷ ‵ Out ∷ ‵ Rest ∷ [])) (Fin 𝓤 H A at-mem run .pre to)
   asked was =
@@ -169,7 +174,7 @@ module _ {M : Type 1} (𝓤 : URA M) (H : Heap 𝓤) (A : Atoms 𝓤) (W : Given
 
   -- what is bound for the callee's parameters at exit: `out`'s last list
   abbrev Lasts : Type 0
-  Lasts = Unit {0} × (List ℕ × (Unit {0} × (Unit {0} × Unit {0})))
+  Lasts = Unit {0} × (List ℕ × (Unit {0} × (Unit {0} × (Unit {0} × Unit {0}))))
 
   -- both ends: what the bench owns at the last list, what says `out`'s last list, and the answer
   ends : (zs : List Hasher) (os : List ℕ) (n : Outcome) → length zs ≡ length ys → length os ≡ length (s₁ .now) → lane < 2 ^ 64 → Is O.the-row n (machO n ∷ [])
@@ -177,77 +182,77 @@ module _ {M : Type 1} (𝓤 : URA M) (H : Heap 𝓤) (A : Atoms 𝓤) (W : Given
       → ent 𝓤 (⋆ 𝓤 H A (‵ (Bench κ b o γ ys zs) ∷ ‵ (flft κ q) ∷ Toks ∷ ‵ (finally u8 (s₁ .name) os) ∷ ‵ Rest ∷ [])) (Post (machO n))
   ends zs os n len len′ gl is e =
       qed W (‵ (Bench κ b o γ ys zs) ∷ ‵ (flft κ q) ∷ Toks ∷ ‵ (finally u8 (s₁ .name) os) ∷ ‵ Rest ∷ []) ∵
-      suffices ! _ (ends-at 𝓤 H A f.ended stayed (f.clauses 𝓤 H A at-mem run) W (((κ, (κ₁, (κ₂, (κ₃, tt)))), (q, (q₁, (q₂, (q₃, tt)))), tt, x, vals), tt) (machO n) n (zs, (tt, (os, (tt, (tt, tt))))) (len, (tt, (len′, (tt, (tt, tt)))))) $
+      suffices ! _ (ends-at 𝓤 H A f.ended stayed (f.clauses 𝓤 H A at-mem run) W (((κ, (κ₁, (κ₂, (κ₃, (κ₄, tt))))), (q, (q₁, (q₂, (q₃, (q₄, tt))))), tt, x, vals), tt) (machO n) n (zs, (tt, (os, (tt, (tt, (tt, tt)))))) (len, (tt, (len′, (tt, (tt, (tt, tt))))))) $
       says ! e $ move ! (1 ∷ 2 ∷ []) $ join ! $ frame ! $ move ! (1 ∷ 2 ∷ []) $ fjoin ! $ owned ! usize (Is usize) (uint-makes 𝓤 H A W w64) lane _ (refl, gl) $ fjoin ! $ move ! (1 ∷ 0 ∷ []) $ fjoin ! $ frame ! $
       owned ! O.the-row (Is O.the-row) (EL.makes O.the-type O′.the-plain 𝓤 H A) n _ is $ done !
 
   module _ (C : Calls 𝓤 H) (Λ : Loops 𝓤 H) (fm : FmC 𝓤 H (W .laws) C) (known-has : Triple 𝓤 (C #lane·has-lane) (Has 𝓤 H A at-mem run)) (known : Triple 𝓤 (C #finish·finish-and-reset) (Fin 𝓤 H A at-mem run)) where
-    walk : Room T.the-row (length ys) → lane < 2 ^ 64 → Is (MutSlice (named 1) κ₁ u8) s₁ (v s₁ ∷ []) → Is (ShrSlice (named 2) κ₂ u32) s₂ (v s₂ ∷ []) → Is (ShrSlice (named 3) κ₃ u32) s₃ (v s₃ ∷ [])
-        → ent 𝓤 (onEntry 𝓤 H A f.signature (κ, (κ₁, (κ₂, (κ₃, tt)))) (q, (q₁, (q₂, (q₃, tt)))) x vals) (WpFn 𝓤 H C Λ code.function (w ∷ vint w64 lane ∷ v s₁ ∷ v s₂ ∷ v s₃ ∷ []) Post)
-    walk room gl p₁ p₂ p₃ =
-        qed W ((‵ (flft κ q) ⊛ Toks) ∷ ‵ (owns (MutSlice (named 0) κ T.the-row ∷ usize ∷ MutSlice (named 1) κ₁ u8 ∷ ShrSlice (named 2) κ₂ u32 ∷ ShrSlice (named 3) κ₃ u32 ∷ []) x vals) ∷ []) ∵
+    walk : Room T.the-row (length ys) → lane < 2 ^ 64 → Is (MutSlice (named 1) κ₁ u8) s₁ (v s₁ ∷ []) → Is (ShrSlice (named 2) κ₂ u32) s₂ (v s₂ ∷ []) → Is (ShrSlice (named 3) κ₃ u32) s₃ (v s₃ ∷ []) → Is (ShrSlice (named 4) κ₄ u32) s₄ (v s₄ ∷ [])
+        → ent 𝓤 (onEntry 𝓤 H A f.signature (κ, (κ₁, (κ₂, (κ₃, (κ₄, tt))))) (q, (q₁, (q₂, (q₃, (q₄, tt))))) x vals) (WpFn 𝓤 H C Λ code.function (w ∷ vint w64 lane ∷ v s₁ ∷ v s₂ ∷ v s₃ ∷ v s₄ ∷ []) Post)
+    walk room gl p₁ p₂ p₃ p₄ =
+        qed W ((‵ (flft κ q) ⊛ Toks) ∷ ‵ (owns (MutSlice (named 0) κ T.the-row ∷ usize ∷ MutSlice (named 1) κ₁ u8 ∷ ShrSlice (named 2) κ₂ u32 ∷ ShrSlice (named 3) κ₃ u32 ∷ ShrSlice (named 4) κ₄ u32 ∷ []) x vals) ∷ []) ∵
         split ! $ move ! (2 ∷ []) $ fsplit ! $ move ! (1 ∷ []) $ fsplit ! $ drop ! $ fsplit ! $ move ! (1 ∷ []) $ use1 W (‵ Rest ⊛ ‵ Rest) rest-twice $ split ! $ move ! (3 ∷ 4 ∷ 5 ∷ 2 ∷ []) $
         -- [what the bench owns; the token; the slices' tokens; what out owns; Rest; Rest]
-        enter ! C Λ code.function (w ∷ vint w64 lane ∷ v s₁ ∷ v s₂ ∷ v s₃ ∷ []) _ $
-        alloc1 ! (λ l₀. alloc1 ! (λ l₁. alloc1 ! (λ l₂. alloc1 ! (λ l₃. alloc1 ! (λ l₄. alloc1 ! (λ l₅. alloc1 ! (λ l₆. alloc1 ! (λ l₇. alloc1 ! (λ l₈. alloc1 ! (λ l₉. alloc1 ! (λ l₁₀. alloc1 ! (λ l₁₁. alloc1 ! (λ l₁₂. alloc1 ! (λ l₁₃. alloc1 ! (λ l₁₄. alloc1 ! (λ l₁₅. alloc0 ! $ params1 ! $
-        pass1 ! (init ! 28 refl (tt, (tt, (record { fits = room .0 }, tt)))) $ pass1 ! (init ! 26 refl (tt, record { fits = gl })) $ pass1 ! (init ! 24 refl (tt, (tt, (record { fits = p₁ .0 .1 .0 }, tt)))) $
-        pass1 ! (init ! 22 refl (shr-slice-lawful 𝓤 H A W (named 2) κ₂ u32 .typed s₂ (v s₂ ∷ []) p₂ .0)) $ pass1 ! (init ! 20 refl (shr-slice-lawful 𝓤 H A W (named 3) κ₃ u32 .typed s₃ (v s₃ ∷ []) p₃ .0)) $ pass0 ! $
-        -- [0 _15; 2 _14; 4 _13; 6 _12; 8 _11; 10 _10; 12 _9; 14 _8; 16 _7; 18 _6; 20 _5; 22 _4; 24 _3; 26 _2; 28 _1; 30 _0; 32 what the bench owns; 33 the token; 34 the slices' tokens; 35 what out owns; 36 Rest; 37 Rest]
-        assigns ! (of-opd ! (load ! (from ! (fld ! refl (stop !))) (look-in ! 28 (sub ! 1 refl (whole !))))) (from ! (stop !)) (init ! 14 refl (tt, record { fits = room .0 })) $
-        asks 𝓤 H A W at-mem run (length ys) lane ! fm known-has (room .0) gl (and-then ! (load ! (from ! (stop !)) (look ! 15 refl)) (and-then ! (load ! (from ! (stop !)) (look ! 27 refl)) (no-more !))) (
+        enter ! C Λ code.function (w ∷ vint w64 lane ∷ v s₁ ∷ v s₂ ∷ v s₃ ∷ v s₄ ∷ []) _ $
+        alloc1 ! (λ l₀. alloc1 ! (λ l₁. alloc1 ! (λ l₂. alloc1 ! (λ l₃. alloc1 ! (λ l₄. alloc1 ! (λ l₅. alloc1 ! (λ l₆. alloc1 ! (λ l₇. alloc1 ! (λ l₈. alloc1 ! (λ l₉. alloc1 ! (λ l₁₀. alloc1 ! (λ l₁₁. alloc1 ! (λ l₁₂. alloc1 ! (λ l₁₃. alloc1 ! (λ l₁₄. alloc1 ! (λ l₁₅. alloc1 ! (λ l₁₆. alloc0 ! $ params1 ! $
+        pass1 ! (init ! 30 refl (tt, (tt, (record { fits = room .0 }, tt)))) $ pass1 ! (init ! 28 refl (tt, record { fits = gl })) $ pass1 ! (init ! 26 refl (tt, (tt, (record { fits = p₁ .0 .1 .0 }, tt)))) $
+        pass1 ! (init ! 24 refl (shr-slice-lawful 𝓤 H A W (named 2) κ₂ u32 .typed s₂ (v s₂ ∷ []) p₂ .0)) $ pass1 ! (init ! 22 refl (shr-slice-lawful 𝓤 H A W (named 3) κ₃ u32 .typed s₃ (v s₃ ∷ []) p₃ .0)) $ pass1 ! (init ! 20 refl (shr-slice-lawful 𝓤 H A W (named 4) κ₄ u32 .typed s₄ (v s₄ ∷ []) p₄ .0)) $ pass0 ! $
+        -- [0 _16; 2 _15; 4 _14; 6 _13; 8 _12; 10 _11; 12 _10; 14 _9; 16 _8; 18 _7; 20 _6; 22 _5; 24 _4; 26 _3; 28 _2; 30 _1; 32 _0; 34 what the bench owns; 35 the token; 36 the slices' tokens; 37 what out owns; 38 Rest; 39 Rest]
+        assigns ! (of-opd ! (load ! (from ! (fld ! refl (stop !))) (look-in ! 30 (sub ! 1 refl (whole !))))) (from ! (stop !)) (init ! 14 refl (tt, record { fits = room .0 })) $
+        asks 𝓤 H A W at-mem run (length ys) lane ! fm known-has (room .0) gl (and-then ! (load ! (from ! (stop !)) (look ! 15 refl)) (and-then ! (load ! (from ! (stop !)) (look ! 29 refl)) (no-more !))) (
         land ! (from ! (stop !)) (init ! 16 refl (tt, tt)) $ first ! $ branches ! (load ! (from ! (stop !)) (look ! 16 refl))
         (λ good. let within = within-of (length ys) lane good in let big = scaled (length ys) lane good in
-        assigns ! (bin ! (load ! (from ! (stop !)) (look ! 26 refl)) (lit ! tt) (record { fits = big })) (from ! (stop !)) (init ! 12 refl (tt, record { fits = big })) $
-        assigns ! (bin ! (load ! (from ! (fld ! refl (stop !))) (look-in ! 28 (sub ! 0 refl (whole !)))) (load ! (from ! (stop !)) (look ! 12 refl)) tt) (from ! (stop !)) (init ! 10 refl (tt, tt)) $
-        move ! (32 ∷ 33 ∷ []) $ taken-out κ b o γ ys ! tt lane within (λ was.
-        -- [0 the lane's cell; 1 to 4 the rest of the open bench; 5 _15; 7 _14; 9 _13; 11 _12; 13 _11; 15 _10; 17 _9; 19 _8; 21 _7; 23 _6; 25 _5; 27 _4; 29 _3; 31 _2; 33 _1; 35 _0; 37 the slices' tokens; 38 out; 39 Rest; 40 Rest]
+        assigns ! (bin ! (load ! (from ! (stop !)) (look ! 28 refl)) (lit ! tt) (record { fits = big })) (from ! (stop !)) (init ! 12 refl (tt, record { fits = big })) $
+        assigns ! (bin ! (load ! (from ! (fld ! refl (stop !))) (look-in ! 30 (sub ! 0 refl (whole !)))) (load ! (from ! (stop !)) (look ! 12 refl)) tt) (from ! (stop !)) (init ! 10 refl (tt, tt)) $
+        move ! (34 ∷ 35 ∷ []) $ taken-out κ b o γ ys ! tt lane within (λ was.
+        -- [0 the lane's cell; 1 to 4 the rest of the open bench; 5 _16; 7 _15; 9 _14; 11 _13; 13 _12; 15 _11; 17 _10; 19 _9; 21 _8; 23 _7; 25 _6; 27 _5; 29 _4; 31 _3; 33 _2; 35 _1; 37 _0; 39 the slices' tokens; 40 out; 41 Rest; 42 Rest]
         assigns ! (of-opd ! (load ! (from ! (hop ! (look ! 15 refl) (stop !))) (look-raw ! 0 refl))) (from ! (stop !)) (init ! 13 refl (LL.lawful T.the-type T′.the-laws 𝓤 H A W .typed h _ was .0)) $
-        assigns ! (addr ! (from ! (fld ! refl (hop ! (look-in ! 29 (sub ! 0 refl (whole !))) (stop !))))) (from ! (stop !)) (init ! 11 refl (tt, tt)) $
-        assigns ! (agg ! (and-then ! (load ! (from ! (stop !)) (look ! 11 refl)) (and-then ! (load ! (from ! (fld ! refl (stop !))) (look-in ! 29 (sub ! 1 refl (whole !)))) (no-more !)))) (from ! (stop !)) (init ! 9 refl (tt, (tt, (record { fits = p₁ .0 .1 .0 }, tt)))) $
-        move ! (37 ∷ 38 ∷ 39 ∷ []) $ use3 W (raw (Fin 𝓤 H A at-mem run .pre to)) (asked was) $
-        -- [0 what `finish_and_reset` asks; 1 the lane's cell; 2 to 5 the rest of the open bench; 6 _15; 8 _14; 10 _13; 12 _12; 14 _11; 16 _10; 18 _9; 20 _8; 22 _7; 24 _6; 26 _5; 28 _4; 30 _3; 32 _2; 34 _1; 36 _0; 38 Rest]
-        calls-at ! fm (Fin 𝓤 H A at-mem run) known to (and-then ! (load ! (from ! (stop !)) (look ! 14 refl)) (and-then ! (load ! (from ! (stop !)) (look ! 10 refl)) (and-then ! (load ! (from ! (stop !)) (look ! 28 refl)) (and-then ! (load ! (from ! (stop !)) (look ! 26 refl)) (no-more !))))) (λ u.
-        use1 W (later (some (λ (r : FinishedReset). (Toks ⊛ ‵ (U.the-row .own r (u ∷ []))) ⊛ raw (ensured 𝓤 H A fin.ended (fin.clauses 𝓤 H A at-mem run) (κ₁, (κ₂, (κ₃, tt))) (h, (s₁, (s₂, (s₃, tt)))) tt r)))) (id⊢ 𝓤 _) $ await ! tt $ pick ! (λ r.
+        assigns ! (addr ! (from ! (fld ! refl (hop ! (look-in ! 31 (sub ! 0 refl (whole !))) (stop !))))) (from ! (stop !)) (init ! 11 refl (tt, tt)) $
+        assigns ! (agg ! (and-then ! (load ! (from ! (stop !)) (look ! 11 refl)) (and-then ! (load ! (from ! (fld ! refl (stop !))) (look-in ! 31 (sub ! 1 refl (whole !)))) (no-more !)))) (from ! (stop !)) (init ! 9 refl (tt, (tt, (record { fits = p₁ .0 .1 .0 }, tt)))) $
+        move ! (39 ∷ 40 ∷ 41 ∷ []) $ use3 W (raw (Fin 𝓤 H A at-mem run .pre to)) (asked was) $
+        -- [0 what `finish_and_reset` asks; 1 the lane's cell; 2 to 5 the rest of the open bench; 6 _16; 8 _15; 10 _14; 12 _13; 14 _12; 16 _11; 18 _10; 20 _9; 22 _8; 24 _7; 26 _6; 28 _5; 30 _4; 32 _3; 34 _2; 36 _1; 38 _0; 40 Rest]
+        calls-at ! fm (Fin 𝓤 H A at-mem run) known to (and-then ! (load ! (from ! (stop !)) (look ! 14 refl)) (and-then ! (load ! (from ! (stop !)) (look ! 10 refl)) (and-then ! (load ! (from ! (stop !)) (look ! 30 refl)) (and-then ! (load ! (from ! (stop !)) (look ! 28 refl)) (and-then ! (load ! (from ! (stop !)) (look ! 26 refl)) (no-more !)))))) (λ u.
+        use1 W (later (some (λ (r : FinishedReset). (Toks ⊛ ‵ (U.the-row .own r (u ∷ []))) ⊛ raw (ensured 𝓤 H A fin.ended (fin.clauses 𝓤 H A at-mem run) (κ₁, (κ₂, (κ₃, (κ₄, tt)))) (h, (s₁, (s₂, (s₃, (s₄, tt))))) tt r)))) (id⊢ 𝓤 _) $ await ! tt $ pick ! (λ r.
         -- what `finish_and_reset` ensures, at some last list of `out`
-        split ! $ move ! (1 ∷ []) $ use1 W (some (λ (ls : Lasts). ‵ (lasts fin.ended (κ₁, (κ₂, (κ₃, tt))) (h, (s₁, (s₂, (s₃, tt)))) ls) ⊛ raw (fact 𝓤 ((r ≡ found) × (ls .1 .0 ≡ wrote))))) (id⊢ 𝓤 _) $ pick ! (λ ls.
+        split ! $ move ! (1 ∷ []) $ use1 W (some (λ (ls : Lasts). ‵ (lasts fin.ended (κ₁, (κ₂, (κ₃, (κ₄, tt)))) (h, (s₁, (s₂, (s₃, (s₄, tt))))) ls) ⊛ raw (fact 𝓤 ((r ≡ found) × (ls .1 .0 ≡ wrote))))) (id⊢ 𝓤 _) $ pick ! (λ ls.
         split ! $ move ! (1 ∷ []) $ heard ! ((r ≡ found) × (ls .1 .0 ≡ wrote)) (λ e. fsplit ! $ drop ! $ fsplit ! $ fsplit ! $ move ! (1 ∷ []) $ feqL ! (λ len. move ! (1 ∷ []) $ drop ! $
         -- [what says out's last list; the tokens and the result; the lane's cell; …]
         move ! (1 ∷ []) $ split ! $ move ! (1 ∷ []) $
-        -- [0 the result; 1 the slices' tokens; 2 what says out's last list; 3 the lane's cell; 4 to 7 the rest of the open bench; 8 _15; …; 38 _0; 40 Rest]
+        -- [0 the result; 1 the slices' tokens; 2 what says out's last list; 3 the lane's cell; 4 to 7 the rest of the open bench; 8 _16; …; 40 _0; 42 Rest]
         returned-lands ! U.the-row (LL.vals U.the-type U′.the-laws) (LL.tells U.the-type U′.the-laws) r u (λ is. land ! (from ! (stop !)) (init ! 25 refl (LL.lawful U.the-type U′.the-laws 𝓤 H A W .typed r _ is .0)) $
-        assigns ! (bin ! (load ! (from ! (stop !)) (look ! 33 refl)) (lit ! tt) (record { fits = big })) (from ! (stop !)) (store ! 19 refl (tt, record { fits = big })) $
-        assigns ! (bin ! (load ! (from ! (fld ! refl (stop !))) (look-in ! 35 (sub ! 0 refl (whole !)))) (load ! (from ! (stop !)) (look ! 19 refl)) tt) (from ! (stop !)) (init ! 9 refl (tt, tt)) $
+        assigns ! (bin ! (load ! (from ! (stop !)) (look ! 35 refl)) (lit ! tt) (record { fits = big })) (from ! (stop !)) (store ! 19 refl (tt, record { fits = big })) $
+        assigns ! (bin ! (load ! (from ! (fld ! refl (stop !))) (look-in ! 37 (sub ! 0 refl (whole !)))) (load ! (from ! (stop !)) (look ! 19 refl)) tt) (from ! (stop !)) (init ! 9 refl (tt, tt)) $
         assigns ! (of-opd ! (load ! (from ! (fld ! refl (stop !))) (look-in ! 25 (sub ! 1 refl (whole !))))) (from ! (hop ! (look ! 9 refl) (stop !))) (store-raw ! 2 refl (LL.lawful T.the-type T′.the-laws 𝓤 H A W .typed (r .hasher) _ (hasher-is r is) .0)) $
-        assigns ! (of-opd ! (load ! (from ! (fld ! refl (stop !))) (look-in ! 25 (sub ! 0 refl (whole !))))) (from ! (stop !)) (init ! 37 refl (EL.lawful O.the-type O′.the-laws 𝓤 H A W tt .typed (r .outcome) _ (outcome-is r is) .0)) $
+        assigns ! (of-opd ! (load ! (from ! (fld ! refl (stop !))) (look-in ! 25 (sub ! 0 refl (whole !))))) (from ! (stop !)) (init ! 39 refl (EL.lawful O.the-type O′.the-laws 𝓤 H A W tt .typed (r .outcome) _ (outcome-is r is) .0)) $
         move ! (2 ∷ 3 ∷ 4 ∷ 5 ∷ 6 ∷ []) $ put-back κ b o γ ys ! tt lane within room (r .hasher) (hasher-is r is) $
-        -- [0 what the bench owns; 1 the token; 2 the slices' tokens; 3 what says out's last list; 4 _15; 6 _14; …; 34 _0; 36 Rest]
-        returns-within ! Post refl (look ! 34 refl) $ forget ! 6 refl $ forget ! 8 refl $ forget ! 10 refl $ forget ! 12 refl $ forget ! 14 refl $ forget ! 16 refl $ forget ! 18 refl $ forget ! 20 refl $ forget ! 22 refl $ forget ! 24 refl $ forget ! 26 refl $ forget ! 28 refl $ forget ! 30 refl $ forget ! 32 refl $ forget ! 34 refl $
-        move ! (34 ∷ 35 ∷ []) $ free1 ! $ move ! (32 ∷ 33 ∷ []) $ free1 ! $ move ! (30 ∷ 31 ∷ []) $ free1 ! $ move ! (28 ∷ 29 ∷ []) $ free1 ! $ move ! (26 ∷ 27 ∷ []) $ free1 ! $ move ! (24 ∷ 25 ∷ []) $ free1 ! $ move ! (22 ∷ 23 ∷ []) $ free1 ! $ move ! (20 ∷ 21 ∷ []) $ free1 ! $ move ! (18 ∷ 19 ∷ []) $ free1 ! $ move ! (16 ∷ 17 ∷ []) $ free1 ! $ move ! (14 ∷ 15 ∷ []) $ free1 ! $ move ! (12 ∷ 13 ∷ []) $ free1 ! $ move ! (10 ∷ 11 ∷ []) $ free1 ! $ move ! (8 ∷ 9 ∷ []) $ free1 ! $ move ! (6 ∷ 7 ∷ []) $ free1 ! $ move ! (4 ∷ 5 ∷ []) $ free1 ! $ free0 ! $
+        -- [0 what the bench owns; 1 the token; 2 the slices' tokens; 3 what says out's last list; 4 _16; 6 _15; …; 36 _0; 38 Rest]
+        returns-within ! Post refl (look ! 36 refl) $ forget ! 6 refl $ forget ! 8 refl $ forget ! 10 refl $ forget ! 12 refl $ forget ! 14 refl $ forget ! 16 refl $ forget ! 18 refl $ forget ! 20 refl $ forget ! 22 refl $ forget ! 24 refl $ forget ! 26 refl $ forget ! 28 refl $ forget ! 30 refl $ forget ! 32 refl $ forget ! 34 refl $ forget ! 36 refl $
+        move ! (36 ∷ 37 ∷ []) $ free1 ! $ move ! (34 ∷ 35 ∷ []) $ free1 ! $ move ! (32 ∷ 33 ∷ []) $ free1 ! $ move ! (30 ∷ 31 ∷ []) $ free1 ! $ move ! (28 ∷ 29 ∷ []) $ free1 ! $ move ! (26 ∷ 27 ∷ []) $ free1 ! $ move ! (24 ∷ 25 ∷ []) $ free1 ! $ move ! (22 ∷ 23 ∷ []) $ free1 ! $ move ! (20 ∷ 21 ∷ []) $ free1 ! $ move ! (18 ∷ 19 ∷ []) $ free1 ! $ move ! (16 ∷ 17 ∷ []) $ free1 ! $ move ! (14 ∷ 15 ∷ []) $ free1 ! $ move ! (12 ∷ 13 ∷ []) $ free1 ! $ move ! (10 ∷ 11 ∷ []) $ free1 ! $ move ! (8 ∷ 9 ∷ []) $ free1 ! $ move ! (6 ∷ 7 ∷ []) $ free1 ! $ move ! (4 ∷ 5 ∷ []) $ free1 ! $ free0 ! $
         by ! (ends (set ys lane (r .hasher)) (ls .1 .0) (r .outcome) (length-set ys lane (r .hasher)) len gl (outcome-is r is) (
           ap (λ (u′ : FinishedReset). set ys lane (u′ .hasher)) (e .0) ∙ on-lane ys lane (λ h′. set ys lane (finishedReset h′ (length (s₁ .now)) l .hasher)) ys good,
           e .1 ∙ on-lane ys lane (λ h′. writtenOut h′ (s₁ .now) l) (s₁ .now) good,
           ap (λ (u′ : FinishedReset). u′ .outcome) (e .0) ∙ on-lane ys lane (λ h′. finishedReset h′ (length (s₁ .now)) l .outcome) (Refused NoLane) good,
         ))))))))))
         (λ bad. assigns ! (agg ! (and-then ! (lit ! tt) (no-more !))) (from ! (stop !)) (init ! 0 refl (EL.lawful N.the-type N′.the-laws 𝓤 H A W tt .typed NoLane _ no-lane-is .0)) $
-        assigns ! (agg ! (and-then ! (lit ! tt) (and-then ! (load ! (from ! (stop !)) (look ! 0 refl)) (no-more !)))) (from ! (stop !)) (init ! 30 refl (EL.lawful O.the-type O′.the-laws 𝓤 H A W tt .typed (Refused NoLane) _ refused-is .0)) $
-        returns-within ! Post refl (look ! 30 refl) $ forget ! 0 refl $ forget ! 14 refl $ forget ! 16 refl $ forget ! 20 refl $ forget ! 22 refl $ forget ! 24 refl $ forget ! 26 refl $ forget ! 28 refl $ forget ! 30 refl $
-        move ! (30 ∷ 31 ∷ []) $ free1 ! $ move ! (28 ∷ 29 ∷ []) $ free1 ! $ move ! (26 ∷ 27 ∷ []) $ free1 ! $ move ! (24 ∷ 25 ∷ []) $ free1 ! $ move ! (22 ∷ 23 ∷ []) $ free1 ! $ move ! (20 ∷ 21 ∷ []) $ free1 ! $ move ! (18 ∷ 19 ∷ []) $ free1 ! $ move ! (16 ∷ 17 ∷ []) $ free1 ! $ move ! (14 ∷ 15 ∷ []) $ free1 ! $ move ! (12 ∷ 13 ∷ []) $ free1 ! $ move ! (10 ∷ 11 ∷ []) $ free1 ! $ move ! (8 ∷ 9 ∷ []) $ free1 ! $ move ! (6 ∷ 7 ∷ []) $ free1 ! $ move ! (4 ∷ 5 ∷ []) $ free1 ! $ move ! (2 ∷ 3 ∷ []) $ free1 ! $ free1 ! $ free0 ! $
+        assigns ! (agg ! (and-then ! (lit ! tt) (and-then ! (load ! (from ! (stop !)) (look ! 0 refl)) (no-more !)))) (from ! (stop !)) (init ! 32 refl (EL.lawful O.the-type O′.the-laws 𝓤 H A W tt .typed (Refused NoLane) _ refused-is .0)) $
+        returns-within ! Post refl (look ! 32 refl) $ forget ! 0 refl $ forget ! 14 refl $ forget ! 16 refl $ forget ! 20 refl $ forget ! 22 refl $ forget ! 24 refl $ forget ! 26 refl $ forget ! 28 refl $ forget ! 30 refl $ forget ! 32 refl $
+        move ! (32 ∷ 33 ∷ []) $ free1 ! $ move ! (30 ∷ 31 ∷ []) $ free1 ! $ move ! (28 ∷ 29 ∷ []) $ free1 ! $ move ! (26 ∷ 27 ∷ []) $ free1 ! $ move ! (24 ∷ 25 ∷ []) $ free1 ! $ move ! (22 ∷ 23 ∷ []) $ free1 ! $ move ! (20 ∷ 21 ∷ []) $ free1 ! $ move ! (18 ∷ 19 ∷ []) $ free1 ! $ move ! (16 ∷ 17 ∷ []) $ free1 ! $ move ! (14 ∷ 15 ∷ []) $ free1 ! $ move ! (12 ∷ 13 ∷ []) $ free1 ! $ move ! (10 ∷ 11 ∷ []) $ free1 ! $ move ! (8 ∷ 9 ∷ []) $ free1 ! $ move ! (6 ∷ 7 ∷ []) $ free1 ! $ move ! (4 ∷ 5 ∷ []) $ free1 ! $ move ! (2 ∷ 3 ∷ []) $ free1 ! $ free1 ! $ free0 ! $
         keep ! (0 ∷ 1 ∷ 2 ∷ 3 ∷ 4 ∷ []) $ move ! (3 ∷ []) $ use1 W (‵ (finally u8 (s₁ .name) (s₁ .now))) out-kept $ move ! (1 ∷ 2 ∷ 3 ∷ 0 ∷ []) $
         by ! (ends ys (s₁ .now) (Refused NoLane) refl refl gl refused-is (
           off-lane ys lane (λ h′. set ys lane (finishedReset h′ (length (s₁ .now)) l .hasher)) ys bad,
           off-lane ys lane (λ h′. writtenOut h′ (s₁ .now) l) (s₁ .now) bad,
           off-lane ys lane (λ h′. finishedReset h′ (length (s₁ .now)) l .outcome) (Refused NoLane) bad,
-        ))))))))))))))))))))
+        )))))))))))))))))))))
 
 module _ {M : Type 1} (𝓤 : URA M) (H : Heap 𝓤) (A : Atoms 𝓤) (W : Given 𝓤 H A) (at-mem : Memory → SProp 𝓤) (run : Routine → Fun 𝓤) where
   lane-walks : (C : Calls 𝓤 H) (Λ : Loops 𝓤 H) → FmC 𝓤 H (W .laws) C → Triple 𝓤 (C #lane·has-lane) (Has 𝓤 H A at-mem run) → Triple 𝓤 (C #finish·finish-and-reset) (Fin 𝓤 H A at-mem run) → Walks 𝓤 H A f.ended stayed (WpFn 𝓤 H C Λ code.function) (f.clauses 𝓤 H A at-mem run)
-  lane-walks C Λ fm known-has known = walked 𝓤 H A f.ended stayed (f.clauses 𝓤 H A at-mem run) (WpFn 𝓤 H C Λ code.function) (λ κs. (slice-vals, (uint-vals w64, (slice-vals, (slice-vals, (slice-vals, tt))))))
-      (λ κs. (mut-slice-tells (named 0) (κs .0) T.the-row, (uint-tells w64, (mut-slice-tells (named 1) (κs .1 .0) u8, (shr-slice-tells (named 2) (κs .1 .1 .0) u32, (shr-slice-tells (named 3) (κs .1 .1 .1 .0) u32, tt))))))
-      (λ κs qs bounds a _ are. via 𝓤 _ (fst∗ 𝓤 _ (emp 𝓤)) (walk 𝓤 H A W at-mem run (κs .0) (κs .1 .0) (κs .1 .1 .0) (κs .1 .1 .1 .0) (qs .0) (qs .1 .0) (qs .1 .1 .0) (qs .1 .1 .1 .0)
-      (a .0 .ptr .0) (a .0 .ptr .1) (a .0 .name) (a .0 .now) (a .1 .0) (a .1 .1 .0) (a .1 .1 .1 .0) (a .1 .1 .1 .1 .0) C Λ fm known-has known (are .0 .0 .1) (are .1 .0 .1) (are .1 .1 .0) (are .1 .1 .1 .0) (are .1 .1 .1 .1 .0)))
+  lane-walks C Λ fm known-has known = walked 𝓤 H A f.ended stayed (f.clauses 𝓤 H A at-mem run) (WpFn 𝓤 H C Λ code.function) (λ κs. (slice-vals, (uint-vals w64, (slice-vals, (slice-vals, (slice-vals, (slice-vals, tt)))))))
+      (λ κs. (mut-slice-tells (named 0) (κs .0) T.the-row, (uint-tells w64, (mut-slice-tells (named 1) (κs .1 .0) u8, (shr-slice-tells (named 2) (κs .1 .1 .0) u32, (shr-slice-tells (named 3) (κs .1 .1 .1 .0) u32, (shr-slice-tells (named 4) (κs .1 .1 .1 .1 .0) u32, tt)))))))
+      (λ κs qs bounds a _ are. via 𝓤 _ (fst∗ 𝓤 _ (emp 𝓤)) (walk 𝓤 H A W at-mem run (κs .0) (κs .1 .0) (κs .1 .1 .0) (κs .1 .1 .1 .0) (κs .1 .1 .1 .1 .0) (qs .0) (qs .1 .0) (qs .1 .1 .0) (qs .1 .1 .1 .0) (qs .1 .1 .1 .1 .0)
+      (a .0 .ptr .0) (a .0 .ptr .1) (a .0 .name) (a .0 .now) (a .1 .0) (a .1 .1 .0) (a .1 .1 .1 .0) (a .1 .1 .1 .1 .0) (a .1 .1 .1 .1 .1 .0) C Λ fm known-has known (are .0 .0 .1) (are .1 .0 .1) (are .1 .1 .0) (are .1 .1 .1 .0) (are .1 .1 .1 .1 .0) (are .1 .1 .1 .1 .1 .0)))
 
-  goes : AllGo 𝓤 H A W 4 (f.signature .params) (f.ended .kept) stayed
-  goes = (goes-slice 𝓤 H A W 4 0 tt (plain (λ _. T.the-row)), (goes-none 𝓤 H A W 4 (λ _. usize) yes (λ κs x f. refl), (goes-gave-slice 𝓤 H A W 4 1 tt (plain (λ _. u8)), (goes-none-slice 𝓤 H A W 4 (2 ∷ []) tt (plain (λ _. u32)) yes, (goes-none-slice 𝓤 H A W 4 (3 ∷ []) tt (plain (λ _. u32)) yes, tt)))))
+  goes : AllGo 𝓤 H A W 5 (f.signature .params) (f.ended .kept) stayed
+  goes = (goes-slice 𝓤 H A W 5 0 tt (plain (λ _. T.the-row)), (goes-none 𝓤 H A W 5 (λ _. usize) yes (λ κs x f. refl), (goes-gave-slice 𝓤 H A W 5 1 tt (plain (λ _. u8)), (goes-none-slice 𝓤 H A W 5 (2 ∷ []) tt (plain (λ _. u32)) yes, (goes-none-slice 𝓤 H A W 5 (3 ∷ []) tt (plain (λ _. u32)) yes, (goes-none-slice 𝓤 H A W 5 (4 ∷ []) tt (plain (λ _. u32)) yes, tt))))))
 
 lane-meets : {M : Type 1} (𝓤 : URA M) (H : Heap 𝓤) (A : Atoms 𝓤) → Given 𝓤 H A → (at-mem : Memory → SProp 𝓤) (run : Routine → Fun 𝓤) (𝓣 : Tables 𝓤 H) → Triple 𝓤 (𝓣 .C #lane·has-lane) (Has 𝓤 H A at-mem run) → Triple 𝓤 (𝓣 .C #finish·finish-and-reset) (Fin 𝓤 H A at-mem run)
     → Meets 𝓤 H A f.signature (WpFn 𝓤 H (𝓣 .C) (𝓣 .Λ) code.function) (f.spec 𝓤 H A at-mem run)

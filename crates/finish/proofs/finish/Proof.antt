@@ -1,5 +1,6 @@
 -- `finish::finish` meets its contract. Assumes nothing.
 use Rattle.refusal.proofs.Chains.{nothing-is}
+use Rattle.loan.proofs.Loans.{accepted-conditions}
 use Rattle.finish.specs.Finish.{finished}
 use Rattle.finish.proofs.Finishing.{tested, finish-finishing}
 use borrow.Author.Needs.{needs}
@@ -15,7 +16,8 @@ is-nothing-requires c κs = search needs
 last-chain-requires : tie.Need-last-chain-requires
 last-chain-requires c κs =
     let r = c .before .before in
-    finish-finishing _ _ _ (nothing-is _ (tested (r .finish-refusal .ensures) (c .before .is-nothing .ensures) (c .if1 .taken))) .well
+    let f = finish-finishing _ _ _ (nothing-is _ (tested (r .finish-refusal .ensures) (c .before .is-nothing .ensures) (c .if1 .taken))) in
+    (f .well, accepted-conditions _ _ _ (f .loan))
 
 verdict-of-requires : tie.Need-verdict-of-requires
 verdict-of-requires c κs = search needs

@@ -5,6 +5,7 @@ use lib.ListN.{length}
 use Rattle.octets.proofs.Stored.{stored-n}
 use Rattle.fips.proofs.Tails.{digest-length}
 use Rattle.refusal.proofs.Chains.{nothing-is}
+use Rattle.loan.proofs.Loans.{accepted-conditions}
 use Rattle.finish.specs.Finish.{finishedReset, writtenOut}
 use Rattle.finish.proofs.Finishing.{tested, finish-finishing}
 use borrow.Author.Needs.{needs}
@@ -20,7 +21,8 @@ is-nothing-requires c κs = search needs
 last-chain-requires : tie.Need-last-chain-requires
 last-chain-requires c κs =
     let r = c .before .before in
-    finish-finishing _ _ _ (nothing-is _ (tested (r .finish-refusal .ensures) (c .before .is-nothing .ensures) (c .if1 .taken))) .well
+    let f = finish-finishing _ _ _ (nothing-is _ (tested (r .finish-refusal .ensures) (c .before .is-nothing .ensures) (c .if1 .taken))) in
+    (f .well, accepted-conditions _ _ _ (f .loan))
 
 digest-requires : tie.Need-digest-requires
 digest-requires c κs = search needs
@@ -56,7 +58,7 @@ returns c =
     let d = ap length (g .digest .ensures) ∙ digest-length _ in
     let z = finish-finishing _ _ _ (nothing-is _ n) .sized in (
       rw (n, c .new .ensures, c .before .verdict-of .ensures, l .last-chain .ensures),
-      rw n (s .store .ensures ∙ stored-n (r .before .before .before .before .args .out .now) (g .digest .result) 20 z d ∙ g .digest .ensures ∙ rw (l .last-chain .ensures)),
+      rw n (s .store .ensures ∙ stored-n (r .before .before .before .before .before .args .out .now) (g .digest .result) 20 z d ∙ g .digest .ensures ∙ rw (l .last-chain .ensures)),
     )
 
 returns-2 : tie.Need-returns-2

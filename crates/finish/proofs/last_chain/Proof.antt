@@ -13,24 +13,24 @@ use Rattle.finish.proofs.last_chain.Statement.{statement}
 use Rattle.finish.proofs.last_chain.Tie as tie
 
 -- the last blocks are one or two, and hold all
-roomy : (c : tie.After-tail-blocks) → Room (c .before .before .before .before .before .before .before .args .h .fill) (c .tail-blocks .result)
+roomy : (c : tie.After-tail-blocks) → Room (c .before .before .before .before .before .before .before .before .args .h .fill) (c .tail-blocks .result)
 roomy c =
-    let z = c .before .before .before .before .before .before .before in
-    rw (c .tail-blocks .ensures) (tail-room (z .args .h .fill) (formed _ (z .pre) .fill-le))
+    let z = c .before .before .before .before .before .before .before .before in
+    rw (c .tail-blocks .ensures) (tail-room (z .args .h .fill) (formed _ (z .pre .0) .fill-le))
 
 mul-tail : tie.Need-mul-tail
 mul-tail c =
-    let f = formed _ (c .before .before .before .before .before .pre) in
+    let f = formed _ (c .before .before .before .before .before .before .pre .0) in
     omega arith
 
 add-tail : tie.Need-add-tail
 add-tail c =
-    let f = formed _ (c .before .before .before .before .before .pre) in
+    let f = formed _ (c .before .before .before .before .before .before .pre .0) in
     omega arith
 
 tail-requires : tie.Need-tail-requires
 tail-requires c κs =
-    let f = formed _ (c .before .before .before .before .before .pre) in
+    let f = formed _ (c .before .before .before .before .before .before .pre .0) in
     (f .fill-le, omega arith)
 
 tail-blocks-requires : tie.Need-tail-blocks-requires
@@ -59,9 +59,9 @@ fold-blocks-requires c κs =
     let k = c .before in
     let r = roomy (k .before) in
     let l : length (k .before .before .tail .result) ≡ 128 = search needs in
-    let f = formed _ (k .before .before .before .before .before .before .before .before .pre) in
+    let f = formed _ (k .before .before .before .before .before .before .before .before .before .pre .0) in
     let e = ap (λ (x : Chain). x .blocks) (k .chain .ensures) in
-    omega (arith, length-take-le (64 * k .before .tail-blocks .result) (k .before .before .tail .result) (omega arith))
+    (omega (arith, length-take-le (64 * k .before .tail-blocks .result) (k .before .before .tail .result) (omega arith)), k .before .before .before .before .before .before .before .before .before .pre .1)
 
 returns : tie.Need-returns
 unfolding lastChain

@@ -1,9 +1,8 @@
--- `layout::flags_number` meets its contract. Each of its four parts is at most the bit's worth. Assumes nothing.
+-- `layout::flags_number` meets its contract. Each of its four parts is at most its worth. Assumes nothing.
 use native.Mathlib.Omega.{arith}
-use Rattle.flags.specs.Flags.{isLent}
 use borrow.Author.Needs.{needs}
 use Rattle.layout.specs.Layout.{flagsNumber}
-use Rattle.layout.proofs.Bits.{at-most-one}
+use Rattle.layout.proofs.Bits.{at-most-one, at-most-sixteen}
 use Rattle.layout.proofs.flags_number.Statement.{statement}
 use Rattle.layout.proofs.flags_number.Tie as tie
 
@@ -21,11 +20,8 @@ add-result c =
     let f = c .before .before .args .f in
     omega (arith, at-most-one (f .detect) (c .before .bit-of .ensures), at-most-one (f .mitigate) (c .bit-of2 .ensures))
 
-masks-bit-requires : tie.Need-masks-bit-requires
-masks-bit-requires c κs = search needs
-
-mul-result-2 : tie.Need-mul-result-2
-mul-result-2 c = omega (arith, at-most-one (isLent (c .before .before .before .args .f .masks)) (c .masks-bit .ensures))
+masks-worth-requires : tie.Need-masks-worth-requires
+masks-worth-requires c κs = search needs
 
 add-result-2 : tie.Need-add-result-2
 add-result-2 c =
@@ -35,14 +31,14 @@ add-result-2 c =
       arith,
       at-most-one (f .detect) (m .before .bit-of .ensures),
       at-most-one (f .mitigate) (m .bit-of2 .ensures),
-      at-most-one (isLent (f .masks)) (c .masks-bit .ensures),
+      at-most-sixteen (f .masks) (c .masks-worth .ensures),
     )
 
 bit-of-requires-3 : tie.Need-bit-of-requires-3
 bit-of-requires-3 c κs = search needs
 
-mul-result-3 : tie.Need-mul-result-3
-mul-result-3 c = omega (arith, at-most-one (c .before .before .before .before .args .f .reduced) (c .bit-of3 .ensures))
+mul-result-2 : tie.Need-mul-result-2
+mul-result-2 c = omega (arith, at-most-one (c .before .before .before .before .args .f .reduced) (c .bit-of3 .ensures))
 
 add-result-3 : tie.Need-add-result-3
 add-result-3 c =
@@ -53,7 +49,7 @@ add-result-3 c =
       arith,
       at-most-one (f .detect) (m .before .bit-of .ensures),
       at-most-one (f .mitigate) (m .bit-of2 .ensures),
-      at-most-one (isLent (f .masks)) (k .masks-bit .ensures),
+      at-most-sixteen (f .masks) (k .masks-worth .ensures),
       at-most-one (f .reduced) (c .bit-of3 .ensures),
     )
 
@@ -62,7 +58,7 @@ unfolding flagsNumber
 returns c =
     let k = c .before in
     let m = k .before in
-    rw (c .bit-of3 .ensures, k .masks-bit .ensures, m .bit-of2 .ensures, m .before .bit-of .ensures)
+    rw (c .bit-of3 .ensures, k .masks-worth .ensures, m .bit-of2 .ensures, m .before .bit-of .ensures)
 
 pub flags-number-spec : {M : Type 1} → statement M
 flags-number-spec =
@@ -72,10 +68,9 @@ flags-number-spec =
     bit-of-requires-2
     mul-result
     add-result
-    masks-bit-requires
-    mul-result-2
+    masks-worth-requires
     add-result-2
     bit-of-requires-3
-    mul-result-3
+    mul-result-2
     add-result-3
     returns)

@@ -13,11 +13,16 @@ shared-slice-read-if2 c = search needs
 returns-2 : tie.Need-returns-2
 returns-2 c = rw (eq-eqb _ _ (c .before .before .if1 .left), lt-leb _ _ (c .if2 .taken))
 
-shared-slice-read-result : tie.Need-shared-slice-read-result
-shared-slice-read-result c = search needs
+shared-slice-read-flags-known : tie.Need-shared-slice-read-flags-known
+shared-slice-read-flags-known c = search needs
+
+flags-known-requires : tie.Need-flags-known-requires
+flags-known-requires c κs = search needs
 
 returns-3 : tie.Need-returns-3
-returns-3 c = rw (eq-eqb _ _ (c .before .before .before .if1 .left), le-leb _ _ (c .before .if2 .left))
+returns-3 c =
+    let s = c .before .before in
+    rw (eq-eqb _ _ (s .before .before .if1 .left), le-leb _ _ (s .if2 .left), c .flags-known .ensures)
 
 pub state-fits-spec : {M : Type 1} → statement M
-state-fits-spec = tie.close (tie.spec returns shared-slice-read-if2 returns-2 shared-slice-read-result returns-3)
+state-fits-spec = tie.close (tie.spec returns shared-slice-read-if2 returns-2 shared-slice-read-flags-known flags-known-requires returns-3)

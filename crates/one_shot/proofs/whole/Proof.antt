@@ -1,21 +1,22 @@
 -- `one_shot::whole` meets its contract. Assumes nothing.
-use Prim.Native.Nat.{_≤_}
 use lib.ListN.{length}
 use Rattle.refusal.proofs.Chains.{nothing-is}
-use Rattle.fips.specs.Fips.{mostBytes}
 use Rattle.loan.specs.Loan.{loanOf}
+use Rattle.loan.proofs.Loans.{accepted-conditions}
+use Rattle.update.proofs.Absorbed.{flags-after}
 use Rattle.finish.proofs.Finishing.{tested}
 use Rattle.one_shot.specs.Whole.{wholeOf}
-use Rattle.one_shot.proofs.Fed.{refusal-whole, whole-ready, fed-formed, fed-chain}
+use Rattle.one_shot.proofs.Fed.{Whole, refusal-whole, whole-ready, fed-formed, fed-chain}
 use borrow.Author.Needs.{needs}
 use Rattle.one_shot.proofs.whole.Statement.{statement}
 use Rattle.one_shot.proofs.whole.Tie as tie
 
--- where nothing is refused the message is short enough
-short : (c : tie.Then1) → length (c .before .before .before .before .before .before .args .bytes .now) ≤ mostBytes
-short c =
+-- where nothing is refused the message is short enough, and the loan is taken
+passed : (c : tie.Then1) → let a = c .before .before .before .before .before .before .before .args in
+    Whole (a .flags) (length (a .bytes .now)) (loanOf (a .table .now) (a .conditions .now) (a .masks .now))
+passed c =
     let r = c .before .before in
-    refusal-whole _ _ _ (nothing-is _ (tested (r .whole-refusal .ensures) (c .before .is-nothing .ensures) (c .if1 .taken))) .short
+    refusal-whole _ _ _ (nothing-is _ (tested (r .whole-refusal .ensures) (c .before .is-nothing .ensures) (c .if1 .taken)))
 
 whole-refusal-requires : tie.Need-whole-refusal-requires
 whole-refusal-requires c κs = search needs
@@ -27,7 +28,7 @@ new-requires : tie.Need-new-requires
 new-requires c κs = search needs
 
 absorb-requires : tie.Need-absorb-requires
-absorb-requires c κs = rw (c .new .ensures) (whole-ready _ _ (short (c .before)))
+absorb-requires c κs = rw (c .new .ensures) (let p = passed (c .before) in whole-ready _ _ _ (p .short) (accepted-conditions _ _ _ (p .loan)))
 
 masks-from-requires : tie.Need-masks-from-requires
 masks-from-requires c κs = search needs
@@ -35,7 +36,8 @@ masks-from-requires c κs = search needs
 last-chain-requires : tie.Need-last-chain-requires
 last-chain-requires c κs =
     let b = c .before in
-    rw (b .absorb .ensures, b .before .new .ensures) (fed-formed _ _ _ (short (b .before .before)))
+    let p = passed (b .before .before) in
+    rw (b .absorb .ensures, b .before .new .ensures) (fed-formed _ _ _ (p .short), rw (flags-after _ _ _) (accepted-conditions _ _ _ (p .loan)))
 
 verdict-of-requires : tie.Need-verdict-of-requires
 verdict-of-requires c κs = search needs
@@ -50,7 +52,7 @@ returns c =
     let b = l .before .before in
     let n = b .before in
     let i = n .before in
-    let a = i .before .before .before .before .before .before .args in
+    let a = i .before .before .before .before .before .before .before .args in
     rw (
       tested (i .before .before .whole-refusal .ensures) (i .before .is-nothing .ensures) (i .if1 .taken),
       c .digest .ensures,
@@ -59,7 +61,7 @@ returns c =
       l .before .masks-from .ensures,
       b .absorb .ensures,
       n .new .ensures,
-      fed-chain (a .flags) (a .bytes .now) (loanOf (a .table .now) (a .masks .now)),
+      fed-chain (a .flags) (a .bytes .now) (loanOf (a .table .now) (a .conditions .now) (a .masks .now)),
     )
 
 returns-2 : tie.Need-returns-2

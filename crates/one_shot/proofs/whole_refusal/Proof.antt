@@ -19,7 +19,7 @@ tail-blocks-requires c κs = search needs
 add-loan-refusal : tie.Need-add-loan-refusal
 add-loan-refusal c =
     let t = c .tail-blocks .ensures in
-    let r = tail-room (c .before .before .before .before .args .n % 64) (omega arith) in
+    let r = tail-room (c .before .before .before .before .before .args .n % 64) (omega arith) in
     omega arith
 
 loan-refusal-requires : tie.Need-loan-refusal-requires

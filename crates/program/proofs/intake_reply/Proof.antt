@@ -25,14 +25,14 @@ returns-2 c =
     let i = c .before .before in
     rw (c .without-digest2 .ensures, sym (i .before .is-nothing .ensures) ∙ not-false _ (i .if1 .left), c .before .if2 .taken)
 
-sub-finish : tie.Need-sub-finish
-sub-finish c = search needs
+sub-none : tie.Need-sub-none
+sub-none c = search needs
 
-part-finish-start : tie.Need-part-finish-start
-part-finish-start c = search needs
+part-none-start : tie.Need-part-none-start
+part-none-start c = search needs
 
-part-finish-end : tie.Need-part-finish-end
-part-finish-end c = search needs
+part-none-end : tie.Need-part-none-end
+part-none-end c = search needs
 
 finish-requires : tie.Need-finish-requires
 finish-requires c κs = search needs
@@ -56,9 +56,9 @@ intake-reply-spec =
     returns
     without-digest-requires-2
     returns-2
-    sub-finish
-    part-finish-start
-    part-finish-end
+    sub-none
+    part-none-start
+    part-none-end
     finish-requires
     finish-reply-requires
     returns-3)

@@ -36,6 +36,15 @@ returns c =
     c .message-end .ensures
     ∙ rw (toZ-ofZ w64 (a .args .got) (a .fits .got)) (sym (with-end (a .args .h) (a .args .table .now) (read a) (eq-eqb _ 0 (sym size ∙ c .before .if1 .taken))))
 
+sub-none : tie.Need-sub-none
+sub-none c = search needs
+
+part-none-start : tie.Need-part-none-start
+part-none-start c = search needs
+
+part-none-end : tie.Need-part-none-end
+part-none-end c = search needs
+
 sub-update : tie.Need-sub-update
 sub-update c = search needs
 
@@ -44,15 +53,6 @@ part-update-start c = search needs
 
 part-update-end : tie.Need-part-update-end
 part-update-end c = search needs
-
-sub-update-2 : tie.Need-sub-update-2
-sub-update-2 c = search needs
-
-part-update-start-2 : tie.Need-part-update-start-2
-part-update-start-2 c = search needs
-
-part-update-end-2 : tie.Need-part-update-end-2
-part-update-end-2 c = search needs
 
 update-requires : tie.Need-update-requires
 update-requires c κs = search needs
@@ -75,12 +75,12 @@ intake-with-spec =
     count-requires
     message-end-requires
     returns
+    sub-none
+    part-none-start
+    part-none-end
     sub-update
     part-update-start
     part-update-end
-    sub-update-2
-    part-update-start-2
-    part-update-end-2
     update-requires
     is-nothing-requires
     returns-2)

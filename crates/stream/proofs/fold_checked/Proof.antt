@@ -13,16 +13,16 @@ use Rattle.stream.proofs.fold_checked.Statement.{statement}
 use Rattle.stream.proofs.fold_checked.Tie as tie
 
 abbrev Inv-loop : tie.InvT-loop
-Inv-loop mode table m masks c₀ i₀ i-end c i =
+Inv-loop mode table conditions m masks c₀ i₀ i-end c i =
     (i ≤ length m / 64)
     × (c .blocks ≡ c₀ .blocks + i)
-    × (chained (checkedOf mode table) (length m / 64 - i) c (drop (64 * i) m) (drop i masks) ≡ chained (checkedOf mode table) (length m / 64) c₀ m masks)
+    × (chained (checkedOf mode table conditions) (length m / 64 - i) c (drop (64 * i) m) (drop i masks) ≡ chained (checkedOf mode table conditions) (length m / 64) c₀ m masks)
 
 abbrev μ-loop : tie.MeasureT-loop
-μ-loop mode table m masks c₀ i₀ i-end c i = length m / 64 - i
+μ-loop mode table conditions m masks c₀ i₀ i-end c i = length m / 64 - i
 
 loop-holds : tie.Need-loop-holds Inv-loop μ-loop
-loop-holds c = (search needs, search needs, rw (sub-zero (length (c .before .before .before .args .m .now) / 64)))
+loop-holds c = (search needs, search needs, rw (sub-zero (length (c .before .before .before .before .args .m .now) / 64)))
 
 mul-at : tie.Need-mul-at Inv-loop μ-loop
 mul-at c = search needs
@@ -45,7 +45,7 @@ mask-at-requires c κs = search needs
 checked-requires : tie.Need-checked-requires Inv-loop μ-loop
 checked-requires c κs =
     let l = c .before .before .before in
-    (block-long (l .before .before .before .before .args .m .now) (l .loop .i) (search needs), search needs)
+    (block-long (l .before .before .before .before .before .args .m .now) (l .loop .i) (search needs), (search needs, search needs))
 
 add-i : tie.Need-add-i Inv-loop μ-loop
 add-i c = search needs
@@ -56,18 +56,18 @@ loop-less c = search needs
 loop-again : tie.Need-loop-again Inv-loop μ-loop
 loop-again c =
     let l = c .before .before .before .before in
-    let a = l .before .before .before .before .args in (
+    let a = l .before .before .before .before .before .args in (
       search needs,
       rw (c .checked .ensures, checked-blocks) (omega arith),
       rw (c .checked .ensures, c .before .mask-at .ensures, block-is (a .m .now) (l .loop .i))
-          (sym (chained-more (checkedOf (a .mode) (a .table .now)) (l .loop .c) (a .m .now) (a .masks .now) (l .loop .i) (length (a .m .now) / 64) (search needs)) ∙ l .loop .inv .2),
+          (sym (chained-more (checkedOf (a .mode) (a .table .now) (a .conditions .now)) (l .loop .c) (a .m .now) (a .masks .now) (l .loop .i) (length (a .m .now) / 64) (search needs)) ∙ l .loop .inv .2),
     )
 
 returns : tie.Need-returns Inv-loop μ-loop
 returns c =
     let l = c .before in
-    let a = l .before .before .before .before .args in
-    sym (chained-done (checkedOf (a .mode) (a .table .now)) (l .loop .c) (drop (64 * l .loop .i) (a .m .now)) (drop (l .loop .i) (a .masks .now)) (l .loop .i) (length (a .m .now) / 64) (search needs))
+    let a = l .before .before .before .before .before .args in
+    sym (chained-done (checkedOf (a .mode) (a .table .now) (a .conditions .now)) (l .loop .c) (drop (64 * l .loop .i) (a .m .now)) (drop (l .loop .i) (a .masks .now)) (l .loop .i) (length (a .m .now) / 64) (search needs))
     ∙ l .loop .inv .2
 
 pub fold-checked-spec : {M : Type 1} → statement M

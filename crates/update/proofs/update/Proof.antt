@@ -3,6 +3,7 @@ use mathlib.Core.Path.{_≡_, sym, ap, _∙_}
 use Rattle.refusal.specs.Refusal.{isNothing}
 use Rattle.update.specs.Update.{updateRefusal, updated}
 use Rattle.loan.specs.Loan.{loanOf}
+use Rattle.loan.proofs.Loans.{accepted-conditions}
 use Rattle.hasher.proofs.Formed.{formed}
 use Rattle.update.proofs.Taken.{refusal-is, update-taken}
 use Rattle.refusal.proofs.Chains.{nothing-is}
@@ -17,16 +18,16 @@ is-nothing-requires : tie.Need-is-nothing-requires
 is-nothing-requires c κs = search needs
 
 -- the test is that of the meaning
-tested : (c : tie.After-is-nothing) → let a = c .before .before .before .before .before .args in
-    c .is-nothing .result ≡ isNothing (updateRefusal (a .h) (a .bytes .now) (loanOf (a .table .now) (a .masks .now)))
+tested : (c : tie.After-is-nothing) → let a = c .before .before .before .before .before .before .args in
+    c .is-nothing .result ≡ isNothing (updateRefusal (a .h) (a .bytes .now) (loanOf (a .table .now) (a .conditions .now) (a .masks .now)))
 tested c = c .is-nothing .ensures ∙ ap isNothing (c .before .update-refusal .ensures)
 
 absorb-requires : tie.Need-absorb-requires
 absorb-requires c κs =
-    let a = c .before .before .before .before .before .before .args in
-    let r = update-taken (a .h) (a .bytes .now) (loanOf (a .table .now) (a .masks .now)) (refusal-is _ _ _ ∙ nothing-is _ (sym (tested (c .before)) ∙ c .if1 .taken)) in
+    let a = c .before .before .before .before .before .before .before .args in
+    let r = update-taken (a .h) (a .bytes .now) (loanOf (a .table .now) (a .conditions .now) (a .masks .now)) (refusal-is _ _ _ ∙ nothing-is _ (sym (tested (c .before)) ∙ c .if1 .taken)) in
     let f = formed (a .h) (r .well) in
-    record { fill-le = f .fill-le; zeros = f .zeros; fits = r .fits }
+    record { fill-le = f .fill-le; zeros = f .zeros; fits = r .fits; selects = accepted-conditions _ _ _ (r .loan) }
 
 returns : tie.Need-returns
 unfolding updated

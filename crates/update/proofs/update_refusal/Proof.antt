@@ -17,10 +17,10 @@ well-formed-requires : tie.Need-well-formed-requires
 well-formed-requires c κs = search needs
 
 -- past the first test the hasher is well formed
-passed : (c : tie.Else1) → wellFormed (c .before .before .before .before .before .args .h) ≡ true
+passed : (c : tie.Else1) → wellFormed (c .before .before .before .before .before .before .args .h) ≡ true
 passed c = sym (c .before .well-formed .ensures) ∙ not-false _ (c .if1 .left)
 
-well : (c : tie.Else1) → Formed (c .before .before .before .before .before .args .h)
+well : (c : tie.Else1) → Formed (c .before .before .before .before .before .before .args .h)
 well c = formed _ (passed c)
 
 returns : tie.Need-returns
@@ -41,7 +41,7 @@ unfolding updateRefusal
 returns-2 c =
     let n = c .before .before .before in
     let f = well n in
-    let a = n .before .before .before .before .before .args in
+    let a = n .before .before .before .before .before .before .args in
     rw (passed n, lt-ltb mostBytes (taken (a .h) + length (a .bytes .now)) (omega arith))
 
 add-loan-refusal : tie.Need-add-loan-refusal
@@ -55,7 +55,7 @@ unfolding updateRefusal
 returns-3 c =
     let n = c .before .before .before .before in
     let f = well n in
-    let a = n .before .before .before .before .before .args in
+    let a = n .before .before .before .before .before .before .args in
     rw (passed n, le-ltb mostBytes (taken (a .h) + length (a .bytes .now)) (omega arith)) (c .loan-refusal .ensures)
 
 pub update-refusal-spec : {M : Type 1} → statement M

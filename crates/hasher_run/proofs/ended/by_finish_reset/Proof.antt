@@ -13,6 +13,15 @@ after-piece-requires c κs = search needs
 slice-aggregate-finish-and-reset : tie.Need-slice-aggregate-finish-and-reset
 slice-aggregate-finish-and-reset c = search needs
 
+sub-finish-and-reset : tie.Need-sub-finish-and-reset
+sub-finish-and-reset c = search needs
+
+part-finish-and-reset-start : tie.Need-part-finish-and-reset-start
+part-finish-and-reset-start c = search needs
+
+part-finish-and-reset-end : tie.Need-part-finish-and-reset-end
+part-finish-and-reset-end c = search needs
+
 blocks-of-requires : tie.Need-blocks-of-requires
 blocks-of-requires c κs = search needs
 
@@ -27,7 +36,7 @@ unfolding byFinishReset
 returns c =
     let f = c .before .before in
     let l = f .before in
-    let p = l .before .before .before in
+    let p = l .before .before .before .before in
     let e = f .finish-and-reset .ensures in
     rw (e .0, e .1, l .masks-between2 .ensures, l .before .blocks-of .ensures, p .after-piece .ensures, p .before .masks-between .ensures)
 
@@ -38,6 +47,9 @@ by-finish-reset-spec =
     masks-between-requires
     after-piece-requires
     slice-aggregate-finish-and-reset
+    sub-finish-and-reset
+    part-finish-and-reset-start
+    part-finish-and-reset-end
     blocks-of-requires
     masks-between-requires-2
     finish-and-reset-requires

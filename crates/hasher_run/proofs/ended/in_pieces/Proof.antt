@@ -1,5 +1,6 @@
 -- `hasher_run::ended::in_pieces` meets its contract. The loop's invariant: the pieces that are left give what the whole gives. Assumes nothing.
 use mathlib.Core.Path.{refl}
+use mathlib.Core.List.{[]}
 use Prim.Native.Nat.{_-_, _≤_}
 use native.Mathlib.Omega.{arith}
 use lib.ListN.{length}
@@ -12,7 +13,7 @@ use Rattle.hasher_run.proofs.ended.in_pieces.Tie as tie
 
 abbrev Inv-loop : tie.InvT-loop
 Inv-loop m line table masks g₀ at₀ size₀ other₀ g at size other =
-    (at ≤ length m) × Left (piecesFrom (length m) g₀ m (loanOf table masks) at₀ size₀ other₀) m (loanOf table masks) g at size other
+    (at ≤ length m) × Left (piecesFrom (length m) g₀ m (loanOf table [] masks) at₀ size₀ other₀) m (loanOf table [] masks) g at size other
 
 abbrev μ-loop : tie.MeasureT-loop
 μ-loop m line table masks g₀ at₀ size₀ other₀ g at size other = length m - at

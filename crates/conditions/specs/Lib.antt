@@ -1,0 +1,4 @@
+pub mod Limits
+pub mod Survivors
+pub mod Conditions
+pub mod Good

@@ -9,9 +9,9 @@
 /* Everything that a call is lent, and the lengths that it is told. Memory is there for one element more. */
 static struct lent {
     uint32_t words[6], after[6], table[82], conditions[12], mask[1], verdict;
-    uint64_t flags, state[5], answer[5];
+    uint64_t flags, state[7], answer[5];
     uint8_t pending[65], bytes[1], digest[21], block[64], sheet[32], code[12];
-    size_t five, five_after, sixty_four, four, twenty, two, four_answers, condition_words;
+    size_t five, five_after, sixty_four, six, twenty, two, four, condition_words;
 } m;
 
 static void fresh(void)
@@ -22,31 +22,33 @@ static void fresh(void)
     m.verdict = 1;
     m.five = m.five_after = 5;
     m.sixty_four = 64;
-    m.four = m.four_answers = 4;
+    m.six = 6;
     m.twenty = 20;
     m.two = 2;
+    m.four = 4;
     m.condition_words = 12; /* two conditions that hold and drop nothing */
 }
 
-#define HASHER m.words, m.five, m.pending, m.sixty_four, m.state, m.four
+#define HASHER m.words, m.five, m.pending, m.sixty_four, m.state, m.six
 #define TABLE m.table, 82
 #define CONDITIONS m.conditions, m.condition_words
 #define NO_MASKS m.mask, 0
 #define ANSWER m.answer, m.two
+#define LONG_ANSWER m.answer, m.four
 
 static uint32_t one_block(void)
 {
-    return purserumble_one_block(m.words, m.five, m.block, 64, TABLE, 1, 1, 0, m.after, m.five_after, m.answer, m.four_answers);
+    return purserumble_one_block(m.words, m.five, m.block, 64, TABLE, 1, 1, 0, m.after, m.five_after, LONG_ANSWER);
 }
 static uint32_t new_hasher(void) { return purserumble_new(m.flags, HASHER); }
 static uint32_t update(void) { return purserumble_update(HASHER, m.bytes, 1, TABLE, CONDITIONS, NO_MASKS, ANSWER); }
 static uint32_t reset(void) { return purserumble_reset(HASHER, ANSWER); }
-static uint32_t finish(void) { return purserumble_finish(HASHER, m.digest, m.twenty, TABLE, CONDITIONS, NO_MASKS, ANSWER); }
+static uint32_t finish(void) { return purserumble_finish(HASHER, m.digest, m.twenty, TABLE, CONDITIONS, NO_MASKS, LONG_ANSWER); }
 static uint32_t finish_and_reset(void)
 {
-    return purserumble_finish_and_reset(HASHER, m.digest, m.twenty, TABLE, CONDITIONS, NO_MASKS, ANSWER);
+    return purserumble_finish_and_reset(HASHER, m.digest, m.twenty, TABLE, CONDITIONS, NO_MASKS, LONG_ANSWER);
 }
-static uint32_t one_shot(void) { return purserumble_one_shot(m.bytes, 1, m.digest, m.twenty, TABLE, m.mask, 1, ANSWER); }
+static uint32_t one_shot(void) { return purserumble_one_shot(m.bytes, 1, m.digest, m.twenty, TABLE, m.mask, 1, LONG_ANSWER); }
 static uint32_t table_fault(void) { return purserumble_table_fault(TABLE, ANSWER); }
 static uint32_t condition_fault(void) { return purserumble_condition_fault(CONDITIONS, ANSWER); }
 static uint32_t lookup(void) { return purserumble_lookup(m.sheet, 32, m.code, 12, ANSWER); }
@@ -54,6 +56,9 @@ static uint32_t compare(void)
 {
     return purserumble_compare(m.sheet, 32, m.code, 12, m.verdict, m.digest, m.twenty, ANSWER);
 }
+
+/* Whether the call's answer is four numbers, of which the last two are the first mark's. */
+static int finishes(uint32_t (*call)(void)) { return call == finish || call == finish_and_reset || call == one_shot; }
 
 static long tried, wrong;
 
@@ -100,8 +105,8 @@ static void refused(const char *name, uint32_t (*call)(void), uint32_t number)
     struct lent before = m;
     memset(m.answer, 0xA5, sizeof m.answer);
     uint32_t said = call();
-    size_t numbers = call == one_block ? 4 : 2;
-    int amiss = 0;
+    size_t numbers = call == one_block || finishes(call) ? 4 : 2;
+    int amiss = finishes(call) && (m.answer[0] || m.answer[2] || m.answer[3]);
     for (size_t i = 0; i < 5; i++)
         if ((m.answer[i] == 0xA5A5A5A5A5A5A5A5) == (i < numbers)) amiss = 1;
     memcpy(m.answer, before.answer, sizeof m.answer);
@@ -141,7 +146,7 @@ static void beginnings(void)
     kept("new", new_hasher);
     lengths("new", new_hasher, &m.five);
     lengths("new", new_hasher, &m.sixty_four);
-    lengths("new", new_hasher, &m.four);
+    lengths("new", new_hasher, &m.six);
     for (int bit = 5; bit < 64; bit++) {
         fresh();
         m.flags = (uint64_t)1 << bit;
@@ -160,7 +165,7 @@ static void beginnings(void)
         want.state[3] = flags;
         memset(m.words, 0xA5, 20);
         memset(m.pending, 0xA5, 64);
-        memset(m.state, 0xA5, 32);
+        memset(m.state, 0xA5, 48);
         tried++;
         if (new_hasher() == 0 && memcmp(&want, &m, sizeof m) == 0) continue;
         wrong++;
@@ -192,7 +197,7 @@ static void hasher(const char *name, uint32_t (*call)(void))
 {
     lengths(name, call, &m.five);
     lengths(name, call, &m.sixty_four);
-    lengths(name, call, &m.four);
+    lengths(name, call, &m.six);
     for (int bit = 0; bit < 64; bit++) {
         fresh();
         m.state[2] = bit ? (uint64_t)1 << bit : 3;
@@ -330,22 +335,85 @@ static void selected(void)
     }
 }
 
+/* First marks that fit their mark and their blocks, and of each kind that does not: 1, and never 255. */
+static void unfit(void)
+{
+    static const struct { const char *name; uint32_t (*call)(void); } calls[] = {
+        { "update", update }, { "reset", reset }, { "finish", finish }, { "finish_and_reset", finish_and_reset } };
+    static const struct { uint64_t blocks, mark, flags, block, place; uint32_t number; } cases[] = {
+        { 0, 0, 1, 1, 0, 1 }, { 0, 0, 1, 0, 1, 1 }, { 2, 0, 1, 1, 0, 1 }, { 2, 0, 0, 0, 1, 1 }, { 2, 0, 1, UINT64_MAX, 0, 1 },
+        { 0, 1, 1, 0, 0, 1 }, { 1, 1, 1, 1, 0, 1 }, { 2, 1, 1, 2, 0, 1 }, { 2, 1, 1, 3, 0, 1 }, { 2, 1, 1, UINT64_MAX, 0, 1 },
+        { 2, 1, 1, 1, 32, 1 }, { 2, 1, 1, 0, (uint64_t)1 << 32, 1 }, { 2, 1, 1, 0, UINT64_MAX, 1 }, { 2, 1, 0, 0, 0, 1 },
+        { 2, 0, 1, 0, 0, 0 }, { 1, 1, 1, 0, 0, 0 }, { 2, 1, 1, 1, 31, 0 }, { 2, 1, 1, 0, 31, 0 } };
+    for (size_t i = 0; i < sizeof calls / sizeof *calls; i++)
+        for (size_t n = 0; n < sizeof cases / sizeof *cases; n++) {
+            const uint64_t state[6] = { 0, cases[n].blocks, cases[n].mark, cases[n].flags, cases[n].block, cases[n].place };
+            filled();
+            memcpy(m.state, state, sizeof state);
+            if (cases[n].number) refused(calls[i].name, calls[i].call, cases[n].number);
+            else expect(calls[i].name, calls[i].call(), 0);
+        }
+}
+
+/* Two control records, of the bits 0 and 1, and a message of so many blocks and bytes, each with the mask that is lent for it: what
+ * the first update and a finish say of the first mark. */
+static void first_marks(void)
+{
+    static const uint32_t table[164] = { [1] = 58, [82] = 1, [83] = 58 };
+    static const uint8_t message[192];
+    static const struct { size_t bytes, taken; uint32_t masks[4]; uint64_t marked, block, place, last_block, last_place; } cases[] = {
+        { 64, 1, { 1, 0 }, 1, 0, 0, 0, 0 }, { 64, 1, { 2, 1 }, 1, 0, 1, 0, 1 }, { 64, 1, { 3, 2 }, 1, 0, 0, 0, 0 },
+        { 64, 1, { 0, 2 }, 0, 0, 0, 1, 1 }, { 192, 3, { 0, 2, 1, 1 }, 1, 1, 1, 1, 1 }, { 192, 3, { 0, 0, 1, 2 }, 1, 2, 0, 2, 0 },
+        { 60, 0, { 2, 1 }, 0, 0, 0, 0, 1 }, { 60, 0, { 0, 2 }, 0, 0, 0, 1, 1 }, { 188, 2, { 0, 0, 0, 3 }, 0, 0, 0, 3, 0 } };
+    for (size_t i = 0; i < sizeof cases / sizeof *cases; i++) {
+        const size_t taken = cases[i].taken, all = (cases[i].bytes + 8) / 64 + 1;
+        const struct purserumble_loan first = { table, 164, cases[i].masks, taken, NULL, 0 };
+        const struct purserumble_loan last = { table, 164, cases[i].masks + taken, all - taken, NULL, 0 };
+        const struct purserumble_loan whole = { table, 164, cases[i].masks, all, NULL, 0 };
+        struct purserumble_hasher h, before;
+        uint64_t answer[4];
+        purserumble_hasher_new(&h, PURSERUMBLE_DETECT | PURSERUMBLE_MITIGATE | PURSERUMBLE_MASKS_LENT);
+        expect("hasher_update", purserumble_hasher_update(&h, message, cases[i].bytes, &first, answer), 0);
+        expect("hasher_marked", purserumble_hasher_marked(&h), cases[i].marked);
+        expect("hasher_first_block", purserumble_hasher_first_block(&h), cases[i].block);
+        expect("hasher_first_place", purserumble_hasher_first_place(&h), cases[i].place);
+        before = h;
+        for (int form = 0; form < 3; form++) {
+            memset(answer, 0xA5, sizeof answer);
+            expect("a finish", form == 0 ? purserumble_hasher_finish(&h, m.digest, &last, answer)
+                : form == 1 ? purserumble_message_digest(message, cases[i].bytes, m.digest, &whole, answer)
+                : purserumble_hasher_finish_and_reset(&h, m.digest, &last, answer), 0);
+            expect("the verdict", answer[PURSERUMBLE_ANSWER_VERDICT], PURSERUMBLE_MITIGATED);
+            expect("the refused record", answer[PURSERUMBLE_ANSWER_REFUSED_PLACE], 0);
+            expect("the first marked block", answer[PURSERUMBLE_ANSWER_FIRST_BLOCK], cases[i].last_block);
+            expect("its vector's place", answer[PURSERUMBLE_ANSWER_FIRST_PLACE], cases[i].last_place);
+            if (form < 2) expect("the hasher after a finish", memcmp(&before, &h, sizeof h) != 0, 0);
+        }
+        for (int form = 0; form < 2; form++) {
+            expect("the mark after a reset", purserumble_hasher_marked(&h), 0);
+            expect("the block after a reset", purserumble_hasher_first_block(&h), 0);
+            expect("the place after a reset", purserumble_hasher_first_place(&h), 0);
+            h = before;
+            expect("hasher_reset", purserumble_hasher_reset(&h), 0);
+        }
+    }
+}
+
 int main(void)
 {
     static const struct { const char *name; uint32_t (*call)(void); int hasher, digest, two; } calls[] = {
         { "one_block", one_block, 0, 0, 0 }, { "update", update, 1, 0, 1 }, { "reset", reset, 1, 0, 1 },
-        { "finish", finish, 1, 0, 1 }, { "finish_and_reset", finish_and_reset, 1, 0, 1 }, { "one_shot", one_shot, 0, 1, 1 },
+        { "finish", finish, 1, 0, 0 }, { "finish_and_reset", finish_and_reset, 1, 0, 0 }, { "one_shot", one_shot, 0, 1, 0 },
         { "table_fault", table_fault, 0, 0, 1 }, { "condition_fault", condition_fault, 0, 0, 1 },
         { "lookup", lookup, 0, 0, 1 }, { "compare", compare, 0, 1, 1 } };
     for (size_t i = 0; i < sizeof calls / sizeof *calls; i++) {
         kept(calls[i].name, calls[i].call);
         if (calls[i].hasher) hasher(calls[i].name, calls[i].call);
         if (calls[i].digest) lengths(calls[i].name, calls[i].call, &m.twenty);
-        if (calls[i].two) lengths(calls[i].name, calls[i].call, &m.two);
+        lengths(calls[i].name, calls[i].call, calls[i].two ? &m.two : &m.four);
     }
     lengths("one_block", one_block, &m.five);
     lengths("one_block", one_block, &m.five_after);
-    lengths("one_block", one_block, &m.four_answers);
     for (uint32_t v = 4; v; v *= 2) { fresh(); m.verdict = v; broken("compare", compare); }
     fresh();
     m.verdict = 0;
@@ -356,6 +424,8 @@ int main(void)
     structs();
     conditions();
     selected();
+    unfit();
+    first_marks();
     printf("%ld comparisons, %ld differences\n", tried, wrong);
     return wrong != 0;
 }

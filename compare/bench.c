@@ -97,6 +97,11 @@ static void write_bytes(const uint8_t *bytes, size_t n)
 
 static void write_switch(const char *name, bool on) { printf("%s %s", name, on ? "on" : "off"); }
 
+static void write_first(uint64_t block, uint64_t place)
+{
+    printf("first block %llu, place %llu", (unsigned long long)block, (unsigned long long)place);
+}
+
 static void write_row(void)
 {
     for (int i = 0; i < SEATS; i++) {
@@ -106,6 +111,8 @@ static void write_row(void)
         write_bytes(h->pending, 64);
         printf(" fill %llu, blocks %llu", (unsigned long long)h->state[0], (unsigned long long)h->state[1]);
         write_switch(", mark", h->state[2]);
+        printf(", ");
+        write_first(h->state[4], h->state[5]);
         write_switch(", detection", h->state[3] & PURSERUMBLE_DETECT);
         write_switch(", mitigation", h->state[3] & PURSERUMBLE_MITIGATE);
         if (h->state[3] & PURSERUMBLE_CONDITIONS) printf(", conditions");
@@ -143,15 +150,17 @@ static void finish(const struct line *l)
     struct purserumble_loan loan = loan_of(l, &b);
     struct purserumble_hasher *h = lane_of(l);
     uint8_t out[ROOM];
-    uint64_t answer[2] = { 0, 0 };
+    uint64_t answer[4] = { 0, 0, 0, 0 };
     memset(out, 0xAA, ROOM);
     if (number_in(l, 8) > ROOM) stop("an output too long");
-    uint32_t refusal = h ? purserumble_finish_and_reset(h->words, 5, h->pending, 64, h->state, 4, out, number_in(l, 8),
-        loan.table, loan.table_words, loan.conditions, loan.condition_words, loan.masks, loan.mask_count, answer, 2) : 10;
+    uint32_t refusal = h ? purserumble_finish_and_reset(h->words, 5, h->pending, 64, h->state, 6, out, number_in(l, 8),
+        loan.table, loan.table_words, loan.conditions, loan.condition_words, loan.masks, loan.mask_count, answer, 4) : 10;
     write_done("finish", l, refusal, answer[1]);
     if (!refusal) printf("%s", verdicts[answer[0] & 3]);
     printf(" ");
     write_bytes(out, ROOM);
+    printf(", ");
+    write_first(answer[2], answer[3]);
     printf("\n");
 }
 
@@ -172,6 +181,8 @@ static void seat_given(const struct line *l)
     h->state[1] = number_in(l, 4);
     h->state[2] = number_in(l, 5);
     h->state[3] = number_in(l, 2);
+    h->state[4] = number_in(l, 8);
+    h->state[5] = number_in(l, 9);
     if (words_in(l, 6, h->words, 5) != 5) stop("not five words");
     bytes_in(l, 7, h->pending, 64);
 }

@@ -17,6 +17,7 @@ static struct tally {
     uint64_t requests[KINDS], compared[KINDS], left_out[KINDS], differ[KINDS];
     uint64_t refused[KINDS][NUMBERS];
     uint64_t marked, marked_later, unmarked_tried, verdicts[3], found, absent, compares[4];
+    uint64_t first_later, first_not_by_first, first_padding, second_padding;
 } tally;
 
 struct field { const char *name; int len; };
@@ -24,10 +25,12 @@ struct field { const char *name; int len; };
 static const struct field block_fields[] = {
     { "refusal", 4 }, { "its place", 8 }, { "mark", 8 }, { "place", 8 }, { "tried", 8 }, { "words", 20 }, { 0, 0 } };
 static const struct field call_fields[] = {
-    { "refusal", 4 }, { "its place", 8 }, { "verdict", 8 }, { "words", 20 }, { "pending", 64 }, { "fill", 8 },
-    { "blocks", 8 }, { "mark", 8 }, { "flags", 8 }, { 0, 0 } };
+    { "refusal", 4 }, { "its place", 8 }, { "verdict", 8 }, { "first marked block", 8 }, { "its vector's place", 8 },
+    { "words", 20 }, { "pending", 64 }, { "fill", 8 }, { "blocks", 8 }, { "mark", 8 }, { "flags", 8 },
+    { "the hasher's first marked block", 8 }, { "the hasher's place of its vector", 8 }, { 0, 0 } };
 static const struct field shot_fields[] = {
-    { "refusal", 4 }, { "its place", 8 }, { "verdict", 8 }, { "digest", 20 }, { 0, 0 } };
+    { "refusal", 4 }, { "its place", 8 }, { "verdict", 8 }, { "first marked block", 8 }, { "its vector's place", 8 },
+    { "digest", 20 }, { 0, 0 } };
 static const struct field check_fields[] = { { "refusal", 4 }, { "its place", 8 }, { 0, 0 } };
 static const struct field lookup_fields[] = { { "refusal", 4 }, { "offset", 8 }, { "length", 8 }, { 0, 0 } };
 static const struct field compare_fields[] = { { "refusal", 4 }, { "answer", 8 }, { 0, 0 } };
@@ -58,6 +61,19 @@ static void show(uint64_t n, int kind, const char *call, const char *field, stru
     hex("request", request.at, request.left < 400 ? request.left : 400);
 }
 
+/* The first mark that a finish or a one-shot hands out. A finish leaves the hasher, so its count tells a padding block. */
+static void see_first(int finish, struct in b)
+{
+    uint64_t block = number(&b, 8), place = number(&b, 8);
+    tally.first_later += block != 0;
+    tally.first_not_by_first += place != 0;
+    if (!finish) return;
+    take(&b, 20 + 64 + 8);
+    uint64_t blocks = number(&b, 8);
+    tally.first_padding += block == blocks;
+    tally.second_padding += block == blocks + 1;
+}
+
 /* Counts what an answer says, so that a reader sees what the requests reached. */
 static void see(int kind, int call, struct in b)
 {
@@ -75,6 +91,7 @@ static void see(int kind, int call, struct in b)
     } else if (kind == ONE_SHOT || (kind == SESSION && call >= FINISH)) {
         uint64_t verdict = number(&b, 8);
         tally.verdicts[(verdict + 2) % 3]++; /* 1 to 3 */
+        if (verdict != 1) see_first(call == FINISH, b);
     } else if (kind == LOOKUP) {
         number(&b, 8) ? tally.found++ : tally.absent++;
     } else if (kind == COMPARE) {
@@ -184,9 +201,12 @@ static uint64_t print(void)
     }
     printf("  in %s's answers: blocks marked %" PRIu64 " (not by the first record %" PRIu64 "), tried and not marked %" PRIu64
         "\n    verdicts ok %" PRIu64 ", mitigated %" PRIu64 ", collision %" PRIu64 "; lookups found %" PRIu64 ", absent %" PRIu64
-        "; compares match %" PRIu64 ", differs %" PRIu64 ", absent %" PRIu64 ", marked %" PRIu64 "\n", name_b, tally.marked, tally.marked_later,
+        "; compares match %" PRIu64 ", differs %" PRIu64 ", absent %" PRIu64 ", marked %" PRIu64 "\n"
+        "    first marks not in block 0 %" PRIu64 ", not by the first record %" PRIu64 ", in a finish's first padding block %" PRIu64
+        ", in its second %" PRIu64 "\n", name_b, tally.marked, tally.marked_later,
         tally.unmarked_tried, tally.verdicts[0], tally.verdicts[1], tally.verdicts[2], tally.found, tally.absent,
-        tally.compares[0], tally.compares[1], tally.compares[2], tally.compares[3]);
+        tally.compares[0], tally.compares[1], tally.compares[2], tally.compares[3],
+        tally.first_later, tally.first_not_by_first, tally.first_padding, tally.second_padding);
     for (int k = ONE_BLOCK; k < KINDS; k++) {
         if (!tally.requests[k]) continue;
         printf("    refused, %s:", kind_name[k]);

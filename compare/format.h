@@ -20,15 +20,17 @@
  *
  * Answers
  *   2 one block  known u8, refusal u32, its place u64, mark u64, place u64, tried u64, words 5 x u32
- *   3 session    for each call: known u8, refusal u32, its place u64, verdict u64, the hasher after the call,
+ *   3 session    for each call: known u8, refusal u32, its place u64, verdict u64, the first mark, the hasher after the call,
  *                the lent output as bytes (20 for finish, none for update and reset)
- *   4 one-shot   known u8, refusal u32, its place u64, verdict u64, digest 20 bytes
+ *   4 one-shot   known u8, refusal u32, its place u64, verdict u64, the first mark, digest 20 bytes
  *   5 table check  known u8, refusal u32, its place u64
  *   6 lookup     known u8, refusal u32, offset u64, length u64, the part's bytes
  *   7 compare    known u8, refusal u32, answer u64
  *   8 condition check  known u8, refusal u32, its place u64
  *
- * A hasher is words 5 x u32, pending 64 bytes, fill u64, blocks u64, mark u64, flags u64.
+ * A hasher is words 5 x u32, pending 64 bytes, fill u64, blocks u64, mark u64, flags u64, the first mark.
+ * A first mark is the number of the first marked block u64, from 0, and the place u64 of the vector that marked it; zeros where
+ * none was, and in the answer of an update or a reset.
  * Bytes are a length u32 and so many bytes; masks are a count u32 and so many u32.
  * Flags are 1 detect, 2 mitigate, 4 masks lent, 8 reduced-round, 16 conditions; 4 and 16 exclude each other.
  * Known is 0 where a program has no answer (the Rust refuses nothing and has no sheet); the rest is then zero.
@@ -43,7 +45,7 @@
 enum { TABLE = 1, ONE_BLOCK, SESSION, ONE_SHOT, TABLE_CHECK, LOOKUP, COMPARE, CONDITION_CHECK };
 enum { UPDATE = 1, RESET, FINISH, FINISH_AND_RESET };
 enum { DETECT = 1, MITIGATE = 2, LENT = 4, REDUCED = 8, CONDITIONS = 16 };
-enum { HASHER_BYTES = 20 + 64 + 32 };
+enum { HASHER_BYTES = 20 + 64 + 48 };
 
 static inline void stop(const char *why) { fprintf(stderr, "%s\n", why); exit(2); }
 

@@ -74,12 +74,14 @@ static void one_block(struct in body, struct out *o)
     put_words(o, after, 5);
 }
 
-static void call_answer(struct out *o, uint32_t refusal, const uint64_t answer[2])
+static void call_answer(struct out *o, uint32_t refusal, const uint64_t answer[4])
 {
     put(o, 1, 1);
     put(o, refusal, 4);
     put(o, answer[1], 8);
     put(o, answer[0], 8);
+    put(o, answer[2], 8);
+    put(o, answer[3], 8);
 }
 
 /* One call of a session, as the request has it. */
@@ -103,18 +105,22 @@ static struct call call_of(struct in *body)
     return c;
 }
 
-struct hasher { uint32_t words[5]; struct lent pending; uint64_t state[4]; };
+enum { STATE = PURSERUMBLE_STATE_SIZE };
 
-#define HASHER h->words, 5, h->pending.at, 64, h->state, 4
+struct hasher { uint32_t words[5]; struct lent pending; uint64_t state[STATE]; };
+
+#define HASHER h->words, 5, h->pending.at, 64, h->state, STATE
 #define LENT_TO(c) TABLE_OF((c).slot), TABLE_OF((c).conditions), (c).masks, (c).masks_len
 
-static uint32_t made(struct call c, struct hasher *h, uint64_t answer[2])
+/* An update and a reset have no first mark in their answer. */
+static uint32_t made(struct call c, struct hasher *h, uint64_t answer[4])
 {
+    if (c.what < FINISH) answer[2] = answer[3] = 0;
     switch (c.what) {
     case UPDATE: return purserumble_update(HASHER, c.bytes.at, c.bytes.left, LENT_TO(c), answer, 2);
     case RESET: return purserumble_reset(HASHER, answer, 2);
-    case FINISH: return purserumble_finish(HASHER, c.out.at, 20, LENT_TO(c), answer, 2);
-    case FINISH_AND_RESET: return purserumble_finish_and_reset(HASHER, c.out.at, c.out.len, LENT_TO(c), answer, 2);
+    case FINISH: return purserumble_finish(HASHER, c.out.at, 20, LENT_TO(c), answer, 4);
+    case FINISH_AND_RESET: return purserumble_finish_and_reset(HASHER, c.out.at, c.out.len, LENT_TO(c), answer, 4);
     }
     stop("no such call");
     return 0;
@@ -125,14 +131,14 @@ static void session(struct in body, struct out *o)
     struct hasher h = { .pending = lend(64, 0) };
     for (int i = 0; i < 5; i++) h.words[i] = number(&body, 4);
     memcpy(h.pending.at, take(&body, 64), 64);
-    for (int i = 0; i < 4; i++) h.state[i] = number(&body, 8);
+    for (int i = 0; i < STATE; i++) h.state[i] = number(&body, 8);
     while (body.left) {
         struct call c = call_of(&body);
-        uint64_t answer[2] = { 99, 99 };
+        uint64_t answer[4] = { 99, 99, 99, 99 };
         call_answer(o, made(c, &h, answer), answer);
         put_words(o, h.words, 5);
         put_raw(o, h.pending.at, 64);
-        for (int i = 0; i < 4; i++) put(o, h.state[i], 8);
+        for (int i = 0; i < STATE; i++) put(o, h.state[i], 8);
         put_bytes(o, c.out.at, c.out.len);
         give_back(c.out);
         free(c.masks);
@@ -147,9 +153,9 @@ static void one_shot(struct in body, struct out *o)
     const uint8_t *bytes = take(&body, len);
     size_t masks_len = number(&body, 4);
     uint32_t *masks = words_of(&body, masks_len);
-    uint64_t answer[2] = { 99, 99 };
+    uint64_t answer[4] = { 99, 99, 99, 99 };
     struct lent digest = lend(20, 0xA5);
-    uint32_t refusal = purserumble_one_shot(bytes, len, digest.at, 20, TABLE_OF(slot), masks, masks_len, answer, 2);
+    uint32_t refusal = purserumble_one_shot(bytes, len, digest.at, 20, TABLE_OF(slot), masks, masks_len, answer, 4);
     call_answer(o, refusal, answer);
     put_raw(o, digest.at, 20);
     give_back(digest);

@@ -10,13 +10,15 @@ int main(void)
     const struct purserumble_loan loan = { table, 82, NULL, 0, NULL, 0 };
     struct purserumble_hasher h;
     uint8_t digest[20] = { 0 };
-    uint64_t answer[2] = { 0, 0 };
+    uint64_t answer[4] = { 0, 0, 0, 0 };
     uint32_t refusal = purserumble_hasher_new(&h, PURSERUMBLE_DETECT | PURSERUMBLE_MITIGATE);
     if (!refusal) refusal = purserumble_hasher_update(&h, "hello ", 6, &loan, answer);
     if (!refusal) refusal = purserumble_hasher_update(&h, "world", 5, &loan, answer);
     if (!refusal) refusal = purserumble_hasher_finish(&h, digest, &loan, answer);
-    printf("%u %s ", (unsigned)refusal, verdicts[answer[0]]);
+    printf("%u %s ", (unsigned)refusal, verdicts[answer[PURSERUMBLE_ANSWER_VERDICT]]);
     for (int i = 0; i < 20; i++) printf("%02x", digest[i]);
+    if (answer[PURSERUMBLE_ANSWER_VERDICT] > PURSERUMBLE_OK)
+        printf(" block %u, place %u", (unsigned)answer[PURSERUMBLE_ANSWER_FIRST_BLOCK], (unsigned)answer[PURSERUMBLE_ANSWER_FIRST_PLACE]);
     printf("\n");
     return 0;
 }

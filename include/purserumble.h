@@ -31,6 +31,12 @@ enum { PURSERUMBLE_OK = 1, PURSERUMBLE_MITIGATED = 2, PURSERUMBLE_COLLISION = 3 
 enum { PURSERUMBLE_MATCH = 1, PURSERUMBLE_DIFFERS = 2, PURSERUMBLE_ABSENT = 3, PURSERUMBLE_MARKED = 4 };
 /* What is returned where the agreement is broken. */
 enum { PURSERUMBLE_BROKEN_AGREEMENT = 255 };
+/* Where a hasher's numbers stand in its state: `state` below has what they are. */
+enum { PURSERUMBLE_STATE_FILL = 0, PURSERUMBLE_STATE_BLOCKS = 1, PURSERUMBLE_STATE_MARK = 2, PURSERUMBLE_STATE_FLAGS = 3,
+    PURSERUMBLE_STATE_FIRST_BLOCK = 4, PURSERUMBLE_STATE_FIRST_PLACE = 5, PURSERUMBLE_STATE_SIZE = 6 };
+/* Where the numbers of a finish stand in its answer, and of a whole message: `answer` below has what they are. One block's four numbers are others. */
+enum { PURSERUMBLE_ANSWER_VERDICT = 0, PURSERUMBLE_ANSWER_REFUSED_PLACE = 1, PURSERUMBLE_ANSWER_FIRST_BLOCK = 2,
+    PURSERUMBLE_ANSWER_FIRST_PLACE = 3, PURSERUMBLE_ANSWER_SIZE = 4 };
 
 /* ---- The calls over slices ----
  *
@@ -39,10 +45,14 @@ enum { PURSERUMBLE_BROKEN_AGREEMENT = 255 };
  * pointer has its name.
  *   words    the five chaining words
  *   pending  the 64 pending bytes
- *   state    fill, blocks, mark (0 or 1), flags
+ *   state    fill, blocks, mark (0 or 1), flags; then the number of the first marked block, from 0, and the place of the
+ *            vector that marked it: both 0 without a mark, else the first below `blocks` and the second at most 31. Numbers
+ *            of another kind are a hasher that is not well formed, which the calls refuse with 1
  *            these three are the hasher; they are changed in place where they are not const
  *   answer   first what the call says, 0 on refusal; then the place of the refused record, of the table or of the
- *            conditions, 0 for other numbers
+ *            conditions, 0 for other numbers. A finish, and a whole message in one call, have two numbers more: the number
+ *            of the message's first marked block and the place of the vector that marked it, both 0 where none was (the
+ *            verdict says so) and on refusal. Padding blocks count: the number may be `blocks` or one above it
  * table, conditions and masks are looked at only where the flags ask for them; what is not looked at may be anything.
  */
 
@@ -53,30 +63,31 @@ uint32_t purserumble_one_block(const uint32_t *words, size_t five, const uint8_t
 
 /* A hasher at the start of a message, whatever was there before. No answer: it gives 0, or 255 for a number that is no flags. */
 uint32_t purserumble_new(uint64_t flags, uint32_t *words, size_t five, uint8_t *pending, size_t sixty_four,
-    uint64_t *state, size_t four);
+    uint64_t *state, size_t six);
 
 /* answer (2): 0, the refused record's place. */
 uint32_t purserumble_update(uint32_t *words, size_t five, uint8_t *pending, size_t sixty_four,
-    uint64_t *state, size_t four, const uint8_t *bytes, size_t bytes_len, const uint32_t *table, size_t table_len,
+    uint64_t *state, size_t six, const uint8_t *bytes, size_t bytes_len, const uint32_t *table, size_t table_len,
     const uint32_t *conditions, size_t conditions_len, const uint32_t *masks, size_t masks_len, uint64_t *answer, size_t two);
 
 /* answer (2): 0, 0. */
 uint32_t purserumble_reset(uint32_t *words, size_t five, uint8_t *pending, size_t sixty_four,
-    uint64_t *state, size_t four, uint64_t *answer, size_t two);
+    uint64_t *state, size_t six, uint64_t *answer, size_t two);
 
-/* answer (2): the verdict, the refused record's place. The hasher stays as given. A digest of other than 20 bytes gives 8. */
+/* answer (4): the verdict, the refused record's place, the first marked block's number, its vector's place. The hasher stays as
+ * given. A digest of other than 20 bytes gives 8. */
 uint32_t purserumble_finish(const uint32_t *words, size_t five, const uint8_t *pending, size_t sixty_four,
-    const uint64_t *state, size_t four, uint8_t *digest, size_t digest_len, const uint32_t *table, size_t table_len,
-    const uint32_t *conditions, size_t conditions_len, const uint32_t *masks, size_t masks_len, uint64_t *answer, size_t two);
+    const uint64_t *state, size_t six, uint8_t *digest, size_t digest_len, const uint32_t *table, size_t table_len,
+    const uint32_t *conditions, size_t conditions_len, const uint32_t *masks, size_t masks_len, uint64_t *answer, size_t four);
 
-/* answer (2): as finish. Writes the output and resets the hasher, or on refusal neither. */
+/* answer (4): as finish. Writes the output and resets the hasher, or on refusal neither. */
 uint32_t purserumble_finish_and_reset(uint32_t *words, size_t five, uint8_t *pending, size_t sixty_four,
-    uint64_t *state, size_t four, uint8_t *out, size_t out_len, const uint32_t *table, size_t table_len,
-    const uint32_t *conditions, size_t conditions_len, const uint32_t *masks, size_t masks_len, uint64_t *answer, size_t two);
+    uint64_t *state, size_t six, uint8_t *out, size_t out_len, const uint32_t *table, size_t table_len,
+    const uint32_t *conditions, size_t conditions_len, const uint32_t *masks, size_t masks_len, uint64_t *answer, size_t four);
 
-/* answer (2): the verdict, the refused record's place. Its flags are detection, mitigation and masks: it knows no conditions. */
+/* answer (4): as finish. Its flags are detection, mitigation and masks: it knows no conditions. */
 uint32_t purserumble_one_shot(const uint8_t *bytes, size_t bytes_len, uint8_t *digest, size_t twenty,
-    const uint32_t *table, size_t table_len, const uint32_t *masks, size_t masks_len, uint64_t *answer, size_t two);
+    const uint32_t *table, size_t table_len, const uint32_t *masks, size_t masks_len, uint64_t *answer, size_t four);
 
 /* answer (2): 0, the refused record's place. */
 uint32_t purserumble_table_fault(const uint32_t *table, size_t table_len, uint64_t *answer, size_t two);
@@ -96,7 +107,7 @@ uint32_t purserumble_compare(const uint8_t *sheet, size_t sheet_len, const uint8
 /* ---- The same calls over structs ---- */
 
 /* A hasher. Copy it freely: it holds no pointer. */
-struct purserumble_hasher { uint32_t words[5]; uint8_t pending[64]; uint64_t state[4]; };
+struct purserumble_hasher { uint32_t words[5]; uint8_t pending[64]; uint64_t state[6]; };
 
 /* What is lent to one call: the words of a table, 82 for each record; the masks; the words of a table of conditions, 6 for
  * each. The conditions stand last so that a loan written without them has none. */
@@ -132,7 +143,7 @@ static inline struct purserumble_loan purserumble_loan_at(const struct purserumb
 /* A hasher at the start of a message: 0, or 255 for a number that is no flags. */
 static inline uint32_t purserumble_hasher_new(struct purserumble_hasher *h, uint64_t flags)
 {
-    return purserumble_new(flags, h->words, 5, h->pending, 64, h->state, 4);
+    return purserumble_new(flags, h->words, 5, h->pending, 64, h->state, 6);
 }
 
 /* A piece of the message. answer: 0, the refused record's place. */
@@ -140,42 +151,60 @@ static inline uint32_t purserumble_hasher_update(struct purserumble_hasher *h, c
     const struct purserumble_loan *loan, uint64_t answer[2])
 {
     struct purserumble_loan l = purserumble_loan_at(loan);
-    return purserumble_update(h->words, 5, h->pending, 64, h->state, 4, purserumble_bytes_at(bytes), bytes_len,
+    return purserumble_update(h->words, 5, h->pending, 64, h->state, 6, purserumble_bytes_at(bytes), bytes_len,
         l.table, l.table_words, l.conditions, l.condition_words, l.masks, l.mask_count, answer, 2);
+}
+
+/* Whether one of the blocks that the hasher has compressed was marked, */
+static inline bool purserumble_hasher_marked(const struct purserumble_hasher *h)
+{
+    return h->state[PURSERUMBLE_STATE_MARK] == 1;
+}
+
+/* the number, from 0, of the first that was, */
+static inline uint64_t purserumble_hasher_first_block(const struct purserumble_hasher *h)
+{
+    return h->state[PURSERUMBLE_STATE_FIRST_BLOCK];
+}
+
+/* and the place of the vector that marked it. Both are 0 where none was. */
+static inline uint64_t purserumble_hasher_first_place(const struct purserumble_hasher *h)
+{
+    return h->state[PURSERUMBLE_STATE_FIRST_PLACE];
 }
 
 /* Everything but the flags as at the start. */
 static inline uint32_t purserumble_hasher_reset(struct purserumble_hasher *h)
 {
     uint64_t answer[2];
-    return purserumble_reset(h->words, 5, h->pending, 64, h->state, 4, answer, 2);
+    return purserumble_reset(h->words, 5, h->pending, 64, h->state, 6, answer, 2);
 }
 
-/* The digest. answer: the verdict, the refused record's place. */
+/* The digest. answer: the verdict, the refused record's place, the first marked block's number, its vector's place. */
 static inline uint32_t purserumble_hasher_finish(const struct purserumble_hasher *h, uint8_t digest[20],
-    const struct purserumble_loan *loan, uint64_t answer[2])
+    const struct purserumble_loan *loan, uint64_t answer[4])
 {
     struct purserumble_loan l = purserumble_loan_at(loan);
-    return purserumble_finish(h->words, 5, h->pending, 64, h->state, 4, digest, 20,
-        l.table, l.table_words, l.conditions, l.condition_words, l.masks, l.mask_count, answer, 2);
+    return purserumble_finish(h->words, 5, h->pending, 64, h->state, 6, digest, 20,
+        l.table, l.table_words, l.conditions, l.condition_words, l.masks, l.mask_count, answer, 4);
 }
 
 /* The same, and a reset. */
 static inline uint32_t purserumble_hasher_finish_and_reset(struct purserumble_hasher *h, uint8_t digest[20],
-    const struct purserumble_loan *loan, uint64_t answer[2])
+    const struct purserumble_loan *loan, uint64_t answer[4])
 {
     struct purserumble_loan l = purserumble_loan_at(loan);
-    return purserumble_finish_and_reset(h->words, 5, h->pending, 64, h->state, 4, digest, 20,
-        l.table, l.table_words, l.conditions, l.condition_words, l.masks, l.mask_count, answer, 2);
+    return purserumble_finish_and_reset(h->words, 5, h->pending, 64, h->state, 6, digest, 20,
+        l.table, l.table_words, l.conditions, l.condition_words, l.masks, l.mask_count, answer, 4);
 }
 
-/* A whole message, with detection, mitigation and the loan's masks. answer: the verdict, the refused record's place. */
+/* A whole message, with detection, mitigation and the loan's masks. answer: as finish. */
 static inline uint32_t purserumble_message_digest(const void *bytes, size_t bytes_len, uint8_t digest[20],
-    const struct purserumble_loan *loan, uint64_t answer[2])
+    const struct purserumble_loan *loan, uint64_t answer[4])
 {
     struct purserumble_loan l = purserumble_loan_at(loan);
     return purserumble_one_shot(purserumble_bytes_at(bytes), bytes_len, digest, 20,
-        l.table, l.table_words, l.masks, l.mask_count, answer, 2);
+        l.table, l.table_words, l.masks, l.mask_count, answer, 4);
 }
 
 /* One block from five words, with the loan's table. answer: mark, place, tried, the refused record's place. */

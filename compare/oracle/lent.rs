@@ -120,6 +120,11 @@ impl Sha1 {
         TAKEN.load(Relaxed)
     }
 
+    /// The place of the record that was tried last.
+    pub fn last_tried(&self) -> usize {
+        LAST.load(Relaxed)
+    }
+
     /// compress.rs on one block, from any five words, with the lent table and the first lent mask.
     pub fn one_block(words: [u32; 5], block: &[u8; 64], mitigate: bool, reduced: bool) -> Block {
         let mut ctx = open::detection(true, mitigate, true, reduced).unwrap();

@@ -8,7 +8,7 @@
 
 use digest::{FixedOutputReset, Reset, Update};
 use rust::{CollisionResult, Sha1};
-use shape::State;
+use shape::{First, State};
 use std::collections::HashMap;
 use std::io::Write;
 
@@ -66,6 +66,11 @@ impl Out {
         self.put(s.mark as u64, 8);
         let flags = [s.detect, s.mitigate, s.lent, s.reduced, s.conditions];
         self.put(flags.iter().rev().fold(0, |n, flag| 2 * n + *flag as u64), 8);
+        self.first(s.first);
+    }
+    fn first(&mut self, first: First) {
+        self.put(first.block, 8);
+        self.put(first.place, 8);
     }
     fn zeros(&mut self, n: usize) {
         self.0.resize(self.0.len() + n, 0);
@@ -146,11 +151,13 @@ fn hasher(body: &mut In) -> Option<State> {
     let words = body.five();
     let pending: [u8; 64] = body.take(64).try_into().unwrap();
     let (fill, blocks, mark, flags) = (body.number(8), body.number(8), body.number(8), body.number(8));
+    let first = First { block: body.number(8), place: body.number(8) };
     let flag = |bit: u64| flags & bit != 0;
     let real = fill < 64
         && blocks < 1 << 55
         && pending[fill as usize..].iter().all(|b| *b == 0)
         && mark <= flags & 1
+        && if mark == 1 { first.block < blocks && first.place < 32 } else { first == First::default() }
         && flags < 32
         && flags & 20 != 20;
     let state = State {
@@ -164,6 +171,7 @@ fn hasher(body: &mut In) -> Option<State> {
         lent: flag(4),
         reduced: flag(8),
         conditions: flag(16),
+        first,
     };
     real.then_some(state)
 }
@@ -226,6 +234,62 @@ impl<'a> Call<'a> {
         }
         (0, vec![], 0)
     }
+    /// The first mark that the call hands out, that of the hasher after it, and 97 where the Rust goes astray.
+    fn firsts(&self, before: &State, after: &State, said: u64, out: &[u8]) -> (First, First, u64) {
+        self.lend();
+        let none = First::default();
+        match self.what {
+            1 => {
+                let (first, wrong) = first_after(before, after.mark, self.bytes, after.words);
+                (none, first, wrong)
+            }
+            2 => (none, none, 0),
+            _ => {
+                let padding = padding(before.blocks * 64 + before.fill);
+                let (first, wrong) = first_after(before, said != 1, &padding, In(out).five());
+                (first, if self.what == 3 { before.first } else { none }, wrong)
+            }
+        }
+    }
+}
+
+/// What FIPS 180-4 has behind a message of so many bytes.
+fn padding(len: u64) -> Vec<u8> {
+    let mut bytes = vec![0x80];
+    bytes.resize(1 + (119 - len % 64) as usize % 64, 0);
+    bytes.extend_from_slice(&(len << 3).to_be_bytes());
+    bytes
+}
+
+/// The first block that sets the mark, and the record tried last then: the Rust keeps neither, so it is fed the bytes again,
+/// block by block, and asked after each. With them the words that it has come to.
+fn first_mark(s: &State, bytes: &[u8]) -> (Option<First>, [u32; 5]) {
+    let mut sha1 = Sha1::from_state(s);
+    let (mut first, mut bytes) = (None, bytes);
+    for block in s.blocks.. {
+        let (piece, rest) = bytes.split_at(bytes.len().min(if block == s.blocks { 64 - s.fill as usize } else { 64 }));
+        Update::update(&mut sha1, piece);
+        if first.is_none() && sha1.state(s).mark {
+            first = Some(First { block, place: sha1.last_tried() as u64 });
+        }
+        bytes = rest;
+        if bytes.is_empty() {
+            break;
+        }
+    }
+    (first, sha1.state(s).words)
+}
+
+/// The first mark after a call, before which it was that of `s`: asked for block by block where the call has set the mark.
+/// 97 where the Rust comes to another end then.
+fn first_after(s: &State, marked: bool, bytes: &[u8], words: [u32; 5]) -> (First, u64) {
+    if !marked || s.mark {
+        return (if marked { s.first } else { First::default() }, 0);
+    }
+    match first_mark(s, bytes) {
+        (Some(first), end) if end == words => (first, 0),
+        _ => (First::default(), 97),
+    }
 }
 
 fn session(mut body: In, tables: &Tables, o: &mut Out) {
@@ -233,20 +297,31 @@ fn session(mut body: In, tables: &Tables, o: &mut Out) {
     while !body.0.is_empty() {
         let call = Call::read(&mut body);
         let Some((sha1, s)) = held.as_mut().filter(|(_, s)| call.suits(s, tables)) else {
-            o.zeros(1 + 4 + 16 + 116 + 4);
+            o.zeros(1 + 4 + 32 + 132 + 4);
             continue;
         };
         let looked_at = s.detect && s.conditions && call.what != 2;
         Sha1::lend_conditions(if looked_at { tables.conditions(call.conditions) } else { None });
+        let before = *s;
         let (said, out, wrong) = call.make(sha1);
         let wrong = wrong + astray(s.detect && s.lent && call.what != 2, call.masks.len());
         *s = sha1.state(s);
-        o.known(wrong);
+        let (handed_out, first, lost) = call.firsts(&before, s, said, &out);
+        s.first = first;
+        o.known(wrong + lost);
         o.put(said, 8);
+        o.first(handed_out);
         o.hasher(s);
         o.put(out.len() as u64, 4);
         o.0.extend_from_slice(&out);
     }
+}
+
+/// A new hasher with the Rust's own defaults, whose masks are lent.
+fn at_start() -> State {
+    let flags = 1 | 2 | 4u64;
+    let start = [0x67452301u32, 0xEFCDAB89, 0x98BADCFE, 0x10325476, 0xC3D2E1F0].map(u32::to_be_bytes).concat();
+    hasher(&mut In(&[&start[..], &[0; 64 + 24], &flags.to_be_bytes(), &[0; 16]].concat())).unwrap()
 }
 
 fn one_shot(mut body: In, tables: &Tables, o: &mut Out) {
@@ -255,11 +330,16 @@ fn one_shot(mut body: In, tables: &Tables, o: &mut Out) {
         Sha1::lend(slot, &masks);
         Sha1::lend_conditions(None);
         let r = Sha1::try_digest(bytes);
-        o.known(astray(true, masks.len()));
+        let wrong = astray(true, masks.len());
+        Sha1::lend(slot, &masks);
+        let padded = [bytes, &padding(bytes.len() as u64)].concat();
+        let (first, lost) = first_after(&at_start(), verdict(&r) != 1, &padded, In(r.hash()).five());
+        o.known(wrong + lost);
         o.put(verdict(&r), 8);
+        o.first(first);
         o.0.extend_from_slice(r.hash());
     } else {
-        o.zeros(1 + 4 + 16 + 20);
+        o.zeros(1 + 4 + 32 + 20);
     }
 }
 

@@ -16,7 +16,8 @@ impl Sha1 {
         hasher
     }
 
-    /// The state of a hasher. With detection off the Rust keeps no other flag, so `given` supplies them.
+    /// The state of a hasher. With detection off the Rust keeps no other flag, so `given` supplies them; so it does the first
+    /// mark, of which the Rust keeps nothing.
     pub fn state(&self, given: &State) -> State {
         let mut s = *given;
         s.words = self.h;

@@ -63,6 +63,7 @@ fn session(flags: u64, message: &[u8], masks: &[u32]) -> Vec<u8> {
     [0x67452301, 0xEFCDAB89, 0x98BADCFE, 0x10325476, 0xC3D2E1F0].iter().for_each(|x| word(&mut b, *x));
     b.extend_from_slice(&[0; 64 + 24]);
     b.extend_from_slice(&flags.to_be_bytes());
+    b.extend_from_slice(&[0; 16]);
     let (first, last) = masks.split_at(message.len() / 64);
     b.push(1);
     word(&mut b, 0);

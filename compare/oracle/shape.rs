@@ -1,4 +1,4 @@
-//! The two records that the oracle's driver and the opened Rust hand to each other.
+//! The records that the oracle's driver and the opened Rust hand to each other.
 
 /// The whole state of a hasher, in the words of the paper.
 #[derive(Clone, Copy)]
@@ -13,6 +13,14 @@ pub struct State {
     pub lent: bool,
     pub reduced: bool,
     pub conditions: bool,
+    pub first: First,
+}
+
+/// The number of the first marked block, from 0, and the place of the record that marked it; zeros where none was.
+#[derive(Clone, Copy, Default, PartialEq)]
+pub struct First {
+    pub block: u64,
+    pub place: u64,
 }
 
 /// What one block gives.

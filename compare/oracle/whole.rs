@@ -15,6 +15,13 @@ impl Sha1 {
     pub fn lend(_: u32, _: &[u32]) {}
     pub fn lend_conditions(_: Option<&[u32]>) {}
 
+    /// The place of the record that was tried last: the Rust still has the schedules of the block and of its sibling.
+    pub fn last_tried(&self) -> usize {
+        let ctx = self.detection.as_ref().unwrap();
+        let differs = |dm: &[u32; 80]| (0..80).any(|t| ctx.m1[t] ^ ctx.m2[t] != dm[t]);
+        SHA1_DVS.iter().position(|record| !differs(&record.dm)).unwrap()
+    }
+
     pub fn masks_taken() -> usize {
         panic!("the Rust as it ships takes no masks")
     }

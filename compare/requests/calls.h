@@ -141,12 +141,15 @@ static uint32_t some_mask(const struct table *t)
     }
 }
 
+/* A list that the masks are taken from one by one, where it is set. */
+static const uint32_t *listed;
+
 /* So many masks: all the same where `same` is given, else by chance; `wrong` is added to their number. */
 static int lend_masks(int slot, uint64_t n, const uint32_t *same, int wrong)
 {
     if ((int64_t)n + wrong < 0) wrong = 1;
     put(&o, n + wrong, 4);
-    for (uint64_t i = 0; i < n + wrong; i++) put(&o, same ? *same : some_mask(&pool[slot]), 4);
+    for (uint64_t i = 0; i < n + wrong; i++) put(&o, listed ? *listed++ : same ? *same : some_mask(&pool[slot]), 4);
     return wrong == 0;
 }
 
@@ -215,12 +218,18 @@ static void read_published(const char *data)
 
 static struct { uint64_t fill, blocks; int flags, malformed; } held;
 
-static void begin(const uint32_t words[5], const uint8_t *pending, uint64_t fill, uint64_t blocks, int mark, int flags)
+/* The number of the first marked block, and the place of its record. */
+struct first { uint64_t block, place; };
+static const struct first nowhere;
+
+static void begin_at(const uint32_t words[5], const uint8_t *pending, uint64_t fill, uint64_t blocks, int mark, int flags,
+    struct first first)
 {
     held.fill = fill;
     held.blocks = blocks;
     held.flags = flags;
     held.malformed = fill > 63 || blocks >> 55 || mark > (flags & DETECT) || flags > 31 || (flags & 20) == 20;
+    held.malformed |= mark ? first.block >= blocks || first.place >= MOST : first.block || first.place;
     for (uint64_t i = fill; i < 64; i++) held.malformed |= pending[i];
     put_words(&o, words, 5);
     put_raw(&o, pending, 64);
@@ -228,6 +237,23 @@ static void begin(const uint32_t words[5], const uint8_t *pending, uint64_t fill
     put(&o, blocks, 8);
     put(&o, mark, 8);
     put(&o, flags, 8);
+    put(&o, first.block, 8);
+    put(&o, first.place, 8);
+}
+
+/* One of a hasher's blocks and a place, by chance. */
+static struct first some_first(uint64_t blocks)
+{
+    struct first f = { blocks ? below(blocks) : 0, below(MOST) };
+    if (blocks && one_in(4)) f.block = blocks - 1;
+    if (one_in(4)) f.place = one_in(2) ? 0 : MOST - 1;
+    return f;
+}
+
+/* A mark was made somewhere. */
+static void begin(const uint32_t words[5], const uint8_t *pending, uint64_t fill, uint64_t blocks, int mark, int flags)
+{
+    begin_at(words, pending, fill, blocks, mark, flags, mark ? some_first(blocks) : nowhere);
 }
 
 static void begin_fresh(int flags)

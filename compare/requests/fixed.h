@@ -117,7 +117,7 @@ static void forms(void)
     memset(pending, 0, 64);
     for (int flags = 0; flags < 64; flags++)
         for (int way = 0; way < 4; way++) {
-            uint64_t blocks = way == 0 ? (uint64_t)1 << 55 : way == 1 ? (uint64_t)-1 : 0;
+            uint64_t blocks = way == 0 ? (uint64_t)1 << 55 : way == 1 ? (uint64_t)-1 : way == 3;
             uint64_t fill = way == 2 ? 64 : 0;
             begin(words, pending, fill, blocks, way == 3, flags);
             update(NO_TABLE, pattern, 3, NULL, 1);
@@ -127,6 +127,30 @@ static void forms(void)
             reset();
             end();
         }
+}
+
+/* Where the mark was first made, with one and without: each number at its bound and beyond, the other one fitting or not. */
+static void first_forms(void)
+{
+    static const uint64_t counts[4] = { 0, 1, 7, ((uint64_t)1 << 55) - 1 };
+    static const uint64_t places[8] = { 0, 1, 31, 32, 33, 255, (uint64_t)1 << 32, -1 };
+    const uint32_t words[5] = { 7, 6, 5, 4, 3 };
+    const uint8_t pending[64] = { 9, 8, 7 };
+    for (int count = 0; count < 4; count++)
+        for (int at = 0; at < 7; at++)
+            for (int place = 0; place < 8; place++)
+                for (int flags = 0; flags < 32; flags++) {
+                    uint64_t n = counts[count], blocks[7] = { 0, 1, n - 1, n, n + 1, (uint64_t)1 << 63, -1 };
+                    const struct first first = { blocks[at], places[place] };
+                    begin_at(words, pending, 3, n, (flags ^ place ^ at) & 1, flags, first);
+                    update(CONTROL, pattern, at % 2 ? 61 : 2, &all, 0);
+                    finish(CONTROL, &none, 0);
+                    finish(NO_TABLE, &all, 0);
+                    if (place % 3) finish_and_reset(CONTROL, &all, 0, place % 3 + 18, 0x44);
+                    else reset();
+                    finish(CONTROL, place % 2 ? &all : &none, 0);
+                    end();
+                }
 }
 
 /* Up to the longest message: the last byte is taken, one more is refused, none is not. */
@@ -337,6 +361,107 @@ static void marks_stay(void)
             }
 }
 
+/* Masks for some blocks: none before the first that is to be marked, `from_there` from it on or for it alone. */
+static uint32_t *masks_from(int first, uint32_t from_there, int alone)
+{
+    static uint32_t list[16];
+    for (int i = 0; i < 16; i++) list[i] = i < first || (alone && i > first) ? 0 : from_there;
+    return list;
+}
+
+/* The crate's records with a control record at a place, one with the same mask number behind it and one with another. */
+static void table_with_controls(int slot, int place)
+{
+    struct table *t = &pool[slot];
+    *t = pool[REAL];
+    for (int i = 0; i < MOST; i++) t->w[RECORD * i] = i % 2 ? 7 : 9;
+    control(t->w + RECORD * place, 5, 58);
+    if (place + 1 < MOST) control(t->w + RECORD * (place + 1), 5, 65);
+    if (place + 2 < MOST) control(t->w + RECORD * (MOST - 1), 6, 65);
+    send_table(slot);
+}
+
+/* A message of which one block is the first that is marked, alone or with all that follow: in one piece, cut, and begun in
+ * mid-stream; in a finish, then over a reset; and at once. */
+static void first_marked(size_t len, int first, uint32_t chosen, int alone, int how)
+{
+    static const uint8_t no_bytes[64];
+    const uint32_t *masks = masks_from(first, chosen, alone);
+    int flags = DETECT | LENT | (how % 2 ? MITIGATE : 0) | (first % 2 ? REDUCED : 0);
+    size_t cut = how == 0 ? 0 : how == 1 ? len / 2 : len;
+    if (how == 3) begin_at(ones, no_bytes, 0, 1000, 0, flags, nowhere);
+    else begin_fresh(flags);
+    listed = masks;
+    update(GOOD, pattern, cut, NULL, 0);
+    update(GOOD, pattern + cut, len - cut, NULL, 0);
+    finish(GOOD, NULL, 0);
+    listed = masks + len / 64;
+    finish_and_reset(GOOD, NULL, 0, 20, 0x21);
+    listed = masks;
+    update(GOOD, pattern, len, NULL, 0);
+    reset();
+    listed = NULL;
+    finish(GOOD, &none, 0);
+    finish(GOOD, &all, 0);
+    end();
+    listed = masks;
+    one_shot(GOOD, pattern, len, NULL, 0);
+    listed = NULL;
+}
+
+/* Messages of up to four blocks and a padding of one or two, of which each is the first that is marked, or none. The masks select
+ * the control record at the place alone, with others before it, or with all. */
+static void first_marks(void)
+{
+    static const int ends[5] = { 0, 1, 55, 56, 63 };
+    static const int places[5] = { 0, 1, 17, 30, 31 };
+    static const uint32_t chosen[3] = { 1 << 5, 1 << 5 | 1 << 7, 0xffffffff };
+    for (int p = 0; p < 5; p++) {
+        table_with_controls(GOOD, places[p]);
+        for (int n = 0; n < 25; n++) {
+            int len = 64 * (n / 5) + ends[n % 5], blocks = (len + 8) / 64 + 1;
+            for (int first = 0; first <= blocks; first++)
+                for (int way = 0; way < 12; way++) first_marked(len, first, chosen[way % 3], way % 2, way / 3);
+        }
+    }
+}
+
+/* A published file, and behind it blocks that a control record in the last place marks: cut everywhere, in each setting. */
+static void marked_again(void)
+{
+    static uint8_t bytes[1024];
+    const uint32_t keeps_27[CONDITION] = { 0, 0, 0, 0, 1, 0x70000000 };
+    struct table *t = &pool[GOOD];
+    *t = pool[REAL];
+    control(t->w + RECORD * (MOST - 1), 31, 58);
+    send_table(GOOD);
+    lend_words(keeps_27, CONDITION, 1);
+    for (int i = 0; i < 3; i++) {
+        size_t len = published[i].left, whole = len + 150;
+        memcpy(bytes, published[i].at, len);
+        memcpy(bytes + len, pattern, 150);
+        for (size_t cut = 0; cut <= whole; cut += 1 + cut % 5)
+            for (int mode = 0; mode < 6; mode++) {
+                int setting = mode % 3 == 0 ? LENT : mode % 3 == 1 ? CONDITIONS : 0;
+                uint32_t *masks = masks_from(len / 64 - 1, 0xffffffff, 0);
+                masks[len / 64 - 1] = mode == 3 ? 0 : 1 << 27;
+                begin_fresh(DETECT | setting | (mode > 2 ? MITIGATE : 0) | (i == 2 ? REDUCED : 0));
+                listed = masks;
+                update(GOOD, bytes, cut, NULL, 0);
+                listed = masks + cut / 64;
+                update(GOOD, bytes + cut, whole - cut, NULL, 0);
+                listed = masks + whole / 64;
+                finish(GOOD, NULL, 0);
+                listed = NULL;
+                finish_and_reset(GOOD, &all, 0, 20, 0x12);
+                update(REAL, bytes, cut, &all, 0);
+                finish(REAL, &all, 0);
+                end();
+            }
+    }
+    lent_conditions = NONE;
+}
+
 /* A lookup or a comparison. */
 static void sheet_call(int kind, const uint8_t *sheet, size_t len, const uint8_t *code, size_t code_len, uint32_t verdict,
     const uint8_t *digest)
@@ -379,6 +504,7 @@ static void fixed_requests(const char *data)
     lengths();
     fills();
     forms();
+    first_forms();
     longest();
     orders();
     damaged_tables();
@@ -388,6 +514,8 @@ static void fixed_requests(const char *data)
     nist_messages(data, 0);
     schoolbook_messages();
     marks_stay();
+    first_marks();
+    marked_again();
     sheets();
     conditions_in_full();
 }

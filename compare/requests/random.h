@@ -231,23 +231,27 @@ static void some_hasher(int flags)
     uint64_t fill = below(64), blocks = chance() >> 9, far = chance();
     blocks >>= below(55);
     int mark = (flags & DETECT) && one_in(4);
+    struct first first = nowhere;
     some_words(words);
     fill_by_chance(pending, fill);
     if (one_in(4)) blocks = ((uint64_t)1 << 55) - 1 - below(3);
+    if (mark) first = some_first(blocks);
     if (one_in(3)) { /* not well formed, in one way or two */
         for (int n = 1 + one_in(4); n > 0; n--)
-            switch (below(7)) {
+            switch (below(9)) {
             case 0: fill = one_in(2) ? 64 : far >> below(57); if (fill < 64) fill = 64; break;
             case 1: blocks = ((uint64_t)1 << 55) + (one_in(2) ? 0 : far >> 1); break;
             case 2: pending[63] = 1; if (fill == 64) fill = 63; break;
             case 3: if (fill < 64) pending[fill] = 1 + below(255); break;
             case 4: mark = 1; flags &= ~DETECT; break;
+            case 5: first.block = mark ? blocks + (one_in(2) ? 0 : far >> below(64)) : 1 + below(9); break;
+            case 6: first.place = mark ? MOST + (one_in(2) ? 0 : far >> 1) : 1 + below(MOST); break;
             /* and as no hasher may lie in memory */
-            case 5: mark = 2 + below(9); break;
+            case 7: mark = 2 + below(9); break;
             default: flags |= one_in(4) ? LENT | CONDITIONS : 32 << below(7); break;
             }
     }
-    begin(words, pending, fill, blocks, mark, flags);
+    begin_at(words, pending, fill, blocks, mark, flags, first);
 }
 
 static void some_session(void)

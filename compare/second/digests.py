@@ -9,6 +9,8 @@ digest is then plain SHA-1. (`collision` leaves the digest as it is.)
 import hashlib, struct, sys
 
 START = bytes.fromhex("67452301efcdab8998badcfe10325476c3d2e1f0") + bytes(64 + 24)
+HASHER = 20 + 64 + 48  # the bytes of a hasher
+ANSWER = 1 + 4 + 32  # and those before it in an answer
 
 
 def records(data):
@@ -36,7 +38,7 @@ def published(name):
 def finishes(body, answer):
     """Message and digest of each finish that should be plain SHA-1."""
     message = b"" if body[:len(START)] == START else None
-    at, back = 116, 0
+    at, back = HASHER, 0
     while at < len(body):
         call = body[at]
         at += 1
@@ -52,9 +54,10 @@ def finishes(body, answer):
         if call == 4:
             at += 5
         known, refusal, _, verdict = struct.unpack_from(">BIQQ", answer, back)
-        n, = struct.unpack_from(">I", answer, back + 21 + 116)
-        out = answer[back + 21 + 116 + 4:back + 21 + 116 + 4 + n]
-        back += 21 + 116 + 4 + n
+        back += ANSWER + HASHER + 4
+        n, = struct.unpack_from(">I", answer, back - 4)
+        out = answer[back:back + n]
+        back += n
         if not known or refusal:
             continue
         if call >= 3 and message is not None and verdict != 2:
@@ -80,7 +83,7 @@ def main():
         elif kind == 4:
             n, = struct.unpack_from(">I", body, 4)
             known, refusal, _, verdict = struct.unpack_from(">BIQQ", answer, 0)
-            plain = [(body[8:8 + n], answer[21:])] if known and not refusal and verdict != 2 else []
+            plain = [(body[8:8 + n], answer[ANSWER:])] if known and not refusal and verdict != 2 else []
         else:
             continue
         for message, digest in plain:

@@ -165,15 +165,21 @@ static uint32_t surviving(const uint8_t *block, const uint32_t *conditions, size
 /* What is lent to a call. */
 struct loan { const uint32_t *table; size_t table_len; const uint32_t *conditions; size_t conditions_len; const uint32_t *masks; size_t masks_len; };
 
+/* The number of the first marked block, from 0, and the place of the record that marked it; zeros where none was. */
+struct first { uint64_t block, place; };
+
 struct hasher {
     uint32_t words[5];
     uint8_t pending[64];
     uint64_t fill, blocks, mark, flags;
+    struct first first;
 };
 
 static struct hasher hasher_of(const uint32_t *words, const uint8_t *pending, const uint64_t *state)
 {
     struct hasher h = { .fill = state[0], .blocks = state[1], .mark = state[2], .flags = state[3] };
+    h.first.block = state[4];
+    h.first.place = state[5];
     memcpy(h.words, words, 20);
     memcpy(h.pending, pending, 64);
     return h;
@@ -187,6 +193,8 @@ static void store(const struct hasher *h, uint32_t *words, uint8_t *pending, uin
     state[1] = h->blocks;
     state[2] = h->mark;
     state[3] = h->flags;
+    state[4] = h->first.block;
+    state[5] = h->first.place;
 }
 
 static int detects(const struct hasher *h) { return h->flags & 1; }
@@ -202,9 +210,16 @@ static struct hasher fresh(uint64_t flags)
     return h;
 }
 
+/* With a mark one of the blocks so far and a place that a table can have, without one nothing. */
+static int first_fits(const struct hasher *h)
+{
+    if (!h->mark) return h->first.block == 0 && h->first.place == 0;
+    return h->first.block < h->blocks && h->first.place < MOST_RECORDS;
+}
+
 static int well_formed(const struct hasher *h)
 {
-    if (h->fill > 63 || h->blocks > most_blocks || (h->mark && !detects(h))) return 0;
+    if (h->fill > 63 || h->blocks > most_blocks || (h->mark && !detects(h)) || !first_fits(h)) return 0;
     for (int i = h->fill; i < 64; i++)
         if (h->pending[i]) return 0;
     return 1;
@@ -218,18 +233,28 @@ static uint32_t selected(const struct hasher *h, const uint8_t *block, struct lo
     return 0xffffffff;
 }
 
+/* A marked block of the stream: the first one is kept. */
+static void marked(struct hasher *h, struct found found)
+{
+    if (h->mark) return;
+    h->mark = 1;
+    h->first.block = h->blocks;
+    h->first.place = found.place;
+}
+
 /* One block of the stream. */
 static void absorb(struct hasher *h, const uint8_t *block, struct loan *lent)
 {
     if (detects(h)) {
         uint32_t chosen = selected(h, block, lent);
         struct found found = checked_block(h->words, block, lent->table, lent->table_len, chosen, mitigates(h), reduces(h));
-        if (found.mark) h->mark = 1;
+        if (found.mark) marked(h, found);
     } else {
         uint32_t w[80];
         schedule(w, block);
         compress(h->words, h->words, w);
     }
+    h->blocks++;
 }
 
 static void feed(struct hasher *h, const uint8_t *bytes, size_t len, struct loan *lent)
@@ -238,7 +263,6 @@ static void feed(struct hasher *h, const uint8_t *bytes, size_t len, struct loan
         h->pending[h->fill++] = bytes[i];
         if (h->fill < 64) continue;
         absorb(h, h->pending, lent);
-        h->blocks++;
         h->fill = 0;
         memset(h->pending, 0, 64);
     }
@@ -278,14 +302,16 @@ static uint32_t finish_refusal(const struct hasher *h, size_t out_len, const str
     return lent_refusal(h, h->fill <= 55 ? 1 : 2, lent, place);
 }
 
-/* The verdict, and the digest's 20 bytes. */
-static uint64_t finished(struct hasher h, uint8_t *digest, struct loan lent)
+/* The digest's 20 bytes; the answer has the verdict, and behind the refused record's place the first mark, padding counted. */
+static void finished(struct hasher h, uint8_t *digest, struct loan lent, uint64_t answer[4])
 {
     uint8_t tail[128];
     int blocks = padding(&h, tail);
     for (int i = 0; i < blocks; i++) absorb(&h, tail + 64 * i, &lent);
     for (int i = 0; i < 20; i++) digest[i] = h.words[i / 4] >> (24 - 8 * (i % 4));
-    return !h.mark ? 1 : mitigates(&h) ? 2 : 3;
+    answer[0] = !h.mark ? 1 : mitigates(&h) ? 2 : 3;
+    answer[2] = h.first.block;
+    answer[3] = h.first.place;
 }
 
 /* ---- The calls ---- */
@@ -296,9 +322,9 @@ enum { BROKEN = 255 };
 static int flags_fit(uint64_t flags) { return flags <= 31 && (flags & 20) != 20; }
 
 /* Whether a hasher lies in memory as the header says. */
-static int hasher_fits(size_t five, size_t sixty_four, const uint64_t *state, size_t four)
+static int hasher_fits(size_t five, size_t sixty_four, const uint64_t *state, size_t six)
 {
-    return five == 5 && sixty_four == 64 && four == 4 && state[2] <= 1 && flags_fit(state[3]);
+    return five == 5 && sixty_four == 64 && six == 6 && state[2] <= 1 && flags_fit(state[3]);
 }
 
 uint32_t purserumble_one_block(const uint32_t *words, size_t five, const uint8_t *block, size_t block_len,
@@ -321,19 +347,19 @@ uint32_t purserumble_one_block(const uint32_t *words, size_t five, const uint8_t
 }
 
 uint32_t purserumble_new(uint64_t flags, uint32_t *words, size_t five, uint8_t *pending, size_t sixty_four,
-    uint64_t *state, size_t four)
+    uint64_t *state, size_t six)
 {
-    if (five != 5 || sixty_four != 64 || four != 4 || !flags_fit(flags)) return BROKEN;
+    if (five != 5 || sixty_four != 64 || six != 6 || !flags_fit(flags)) return BROKEN;
     struct hasher h = fresh(flags);
     store(&h, words, pending, state);
     return 0;
 }
 
 uint32_t purserumble_update(uint32_t *words, size_t five, uint8_t *pending, size_t sixty_four,
-    uint64_t *state, size_t four, const uint8_t *bytes, size_t bytes_len, const uint32_t *table, size_t table_len,
+    uint64_t *state, size_t six, const uint8_t *bytes, size_t bytes_len, const uint32_t *table, size_t table_len,
     const uint32_t *conditions, size_t conditions_len, const uint32_t *masks, size_t masks_len, uint64_t *answer, size_t two)
 {
-    if (!hasher_fits(five, sixty_four, state, four) || two != 2) return BROKEN;
+    if (!hasher_fits(five, sixty_four, state, six) || two != 2) return BROKEN;
     struct hasher h = hasher_of(words, pending, state);
     struct loan lent = { table, table_len, conditions, conditions_len, masks, masks_len };
     uint32_t refusal;
@@ -348,9 +374,9 @@ uint32_t purserumble_update(uint32_t *words, size_t five, uint8_t *pending, size
 }
 
 uint32_t purserumble_reset(uint32_t *words, size_t five, uint8_t *pending, size_t sixty_four,
-    uint64_t *state, size_t four, uint64_t *answer, size_t two)
+    uint64_t *state, size_t six, uint64_t *answer, size_t two)
 {
-    if (!hasher_fits(five, sixty_four, state, four) || two != 2) return BROKEN;
+    if (!hasher_fits(five, sixty_four, state, six) || two != 2) return BROKEN;
     struct hasher h = hasher_of(words, pending, state);
     answer[0] = answer[1] = 0;
     if (!well_formed(&h)) return 1;
@@ -360,49 +386,49 @@ uint32_t purserumble_reset(uint32_t *words, size_t five, uint8_t *pending, size_
 }
 
 uint32_t purserumble_finish(const uint32_t *words, size_t five, const uint8_t *pending, size_t sixty_four,
-    const uint64_t *state, size_t four, uint8_t *digest, size_t digest_len, const uint32_t *table, size_t table_len,
-    const uint32_t *conditions, size_t conditions_len, const uint32_t *masks, size_t masks_len, uint64_t *answer, size_t two)
+    const uint64_t *state, size_t six, uint8_t *digest, size_t digest_len, const uint32_t *table, size_t table_len,
+    const uint32_t *conditions, size_t conditions_len, const uint32_t *masks, size_t masks_len, uint64_t *answer, size_t four)
 {
-    if (!hasher_fits(five, sixty_four, state, four) || two != 2) return BROKEN;
+    if (!hasher_fits(five, sixty_four, state, six) || four != 4) return BROKEN;
     struct hasher h = hasher_of(words, pending, state);
     struct loan lent = { table, table_len, conditions, conditions_len, masks, masks_len };
-    answer[0] = 0;
+    answer[0] = answer[2] = answer[3] = 0;
     uint32_t refusal = finish_refusal(&h, digest_len, &lent, &answer[1]);
-    if (!refusal) answer[0] = finished(h, digest, lent);
+    if (!refusal) finished(h, digest, lent, answer);
     return refusal;
 }
 
 uint32_t purserumble_finish_and_reset(uint32_t *words, size_t five, uint8_t *pending, size_t sixty_four,
-    uint64_t *state, size_t four, uint8_t *out, size_t out_len, const uint32_t *table, size_t table_len,
-    const uint32_t *conditions, size_t conditions_len, const uint32_t *masks, size_t masks_len, uint64_t *answer, size_t two)
+    uint64_t *state, size_t six, uint8_t *out, size_t out_len, const uint32_t *table, size_t table_len,
+    const uint32_t *conditions, size_t conditions_len, const uint32_t *masks, size_t masks_len, uint64_t *answer, size_t four)
 {
-    if (!hasher_fits(five, sixty_four, state, four) || two != 2) return BROKEN;
+    if (!hasher_fits(five, sixty_four, state, six) || four != 4) return BROKEN;
     struct hasher h = hasher_of(words, pending, state);
     struct loan lent = { table, table_len, conditions, conditions_len, masks, masks_len };
-    answer[0] = 0;
+    answer[0] = answer[2] = answer[3] = 0;
     uint32_t refusal = finish_refusal(&h, out_len, &lent, &answer[1]);
     if (refusal) return refusal;
-    answer[0] = finished(h, out, lent);
+    finished(h, out, lent, answer);
     h = fresh(h.flags);
     store(&h, words, pending, state);
     return 0;
 }
 
 uint32_t purserumble_one_shot(const uint8_t *bytes, size_t bytes_len, uint8_t *digest, size_t twenty,
-    const uint32_t *table, size_t table_len, const uint32_t *masks, size_t masks_len, uint64_t *answer, size_t two)
+    const uint32_t *table, size_t table_len, const uint32_t *masks, size_t masks_len, uint64_t *answer, size_t four)
 {
-    if (twenty != 20 || two != 2) return BROKEN;
+    if (twenty != 20 || four != 4) return BROKEN;
     /* The defaults: detection, mitigation and masks on, reduced-round mode off. */
     struct hasher h = fresh(1 | 2 | 4);
     struct loan lent = { table, table_len, NULL, 0, masks, masks_len };
     uint32_t refusal;
-    answer[0] = answer[1] = 0;
+    memset(answer, 0, 4 * sizeof *answer);
     /* The message, the byte 80 and the 8 bytes of the length, rounded up to whole blocks. */
     if (bytes_len > most_bytes) refusal = 7;
     else refusal = lent_refusal(&h, ((uint64_t)bytes_len + 1 + 8 + 63) / 64, &lent, &answer[1]);
     if (refusal) return refusal;
     feed(&h, bytes, bytes_len, &lent);
-    answer[0] = finished(h, digest, lent);
+    finished(h, digest, lent, answer);
     return 0;
 }
 

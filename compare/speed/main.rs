@@ -28,14 +28,14 @@ type Side<'a> = (&'a str, Box<dyn Fn(&[u8]) -> Digest + 'a>);
 mod proved {
     extern "C" {
         fn purserumble_update(
-            words: *mut u32, five: usize, pending: *mut u8, sixty_four: usize, state: *mut u64, four: usize,
+            words: *mut u32, five: usize, pending: *mut u8, sixty_four: usize, state: *mut u64, six: usize,
             bytes: *const u8, bytes_len: usize, table: *const u32, table_len: usize,
             conditions: *const u32, conditions_len: usize, masks: *const u32, masks_len: usize, answer: *mut u64, two: usize,
         ) -> u32;
         fn purserumble_finish(
-            words: *const u32, five: usize, pending: *const u8, sixty_four: usize, state: *const u64, four: usize,
+            words: *const u32, five: usize, pending: *const u8, sixty_four: usize, state: *const u64, six: usize,
             digest: *mut u8, twenty: usize, table: *const u32, table_len: usize,
-            conditions: *const u32, conditions_len: usize, masks: *const u32, masks_len: usize, answer: *mut u64, two: usize,
+            conditions: *const u32, conditions_len: usize, masks: *const u32, masks_len: usize, answer: *mut u64, four: usize,
         ) -> u32;
     }
 
@@ -43,15 +43,15 @@ mod proved {
     /// masks off.
     pub fn digest(bytes: &[u8], table: &[u32], conditions: &[u32]) -> super::Digest {
         let mut words = [0x67452301, 0xEFCDAB89, 0x98BADCFE, 0x10325476, 0xC3D2E1F0u32];
-        let (mut pending, mut answer, mut digest) = ([0u8; 64], [0u64; 2], [0u8; 20]);
-        let mut state = [0, 0, 0, if table.is_empty() { 0 } else { 1 | 2 }];
+        let (mut pending, mut answer, mut digest) = ([0u8; 64], [0u64; 4], [0u8; 20]);
+        let mut state = [0, 0, 0, if table.is_empty() { 0 } else { 1 | 2 }, 0, 0];
         state[3] |= if conditions.is_empty() { 0 } else { 16 };
         let none = [0u32; 0];
         for piece in bytes.chunks(super::PIECE) {
             // SAFETY: every pointer comes with the length of what it points to.
             let refusal = unsafe {
                 purserumble_update(
-                    words.as_mut_ptr(), 5, pending.as_mut_ptr(), 64, state.as_mut_ptr(), 4,
+                    words.as_mut_ptr(), 5, pending.as_mut_ptr(), 64, state.as_mut_ptr(), 6,
                     piece.as_ptr(), piece.len(), table.as_ptr(), table.len(),
                     conditions.as_ptr(), conditions.len(), none.as_ptr(), 0, answer.as_mut_ptr(), 2,
                 )
@@ -61,9 +61,9 @@ mod proved {
         // SAFETY: as above.
         let refusal = unsafe {
             purserumble_finish(
-                words.as_ptr(), 5, pending.as_ptr(), 64, state.as_ptr(), 4,
+                words.as_ptr(), 5, pending.as_ptr(), 64, state.as_ptr(), 6,
                 digest.as_mut_ptr(), 20, table.as_ptr(), table.len(),
-                conditions.as_ptr(), conditions.len(), none.as_ptr(), 0, answer.as_mut_ptr(), 2,
+                conditions.as_ptr(), conditions.len(), none.as_ptr(), 0, answer.as_mut_ptr(), 4,
             )
         };
         assert_eq!((refusal, answer[0]), (0, 1), "not the verdict ok");

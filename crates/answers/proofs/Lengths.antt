@@ -10,22 +10,22 @@ use Rattle.word.proofs.Tests.{both-true}
 use Rattle.layout.specs.Layout.{flagsKnown, stateFits, hasherFits, newFits}
 use Rattle.answers.proofs.Guards.{fit}
 
--- the lengths that were asked for: of a hasher, and of a hasher and an answer
-hasher-lengths : (w p : ℕ) (s : List ℕ) → hasherFits w p s ≡ true → (w ≡ 5) × (p ≡ 64) × (length s ≡ 4)
+-- the lengths that were asked for: of a hasher, and of a hasher and an answer of n numbers
+hasher-lengths : (w p : ℕ) (s : List ℕ) → hasherFits w p s ≡ true → (w ≡ 5) × (p ≡ 64) × (length s ≡ 6)
 hasher-lengths w p s h =
     let f = both-true (eqb w 5) (eqb p 64 && stateFits s) h in
     let g = both-true (eqb p 64) (stateFits s) (f .1) in
-    let k = both-true (eqb (length s) 4) (leb (getD s 2 0) 1 && flagsKnown (getD s 3 0)) (g .1) in
-    (eqb-true w 5 (f .0), eqb-true p 64 (g .0), eqb-true (length s) 4 (k .0))
+    let k = both-true (eqb (length s) 6) (leb (getD s 2 0) 1 && flagsKnown (getD s 3 0)) (g .1) in
+    (eqb-true w 5 (f .0), eqb-true p 64 (g .0), eqb-true (length s) 6 (k .0))
 
-pub lengths : (w p : ℕ) (s : List ℕ) (a : ℕ) {b : Bool} → b ≡ (hasherFits w p s && eqb a 2) → not b ≡ false
-    → ((w ≡ 5) × (p ≡ 64) × (length s ≡ 4)) × (a ≡ 2)
-lengths w p s a e h =
-    let f = fit (hasherFits w p s) (eqb a 2) e h in
-    (hasher-lengths w p s (f .0), eqb-true a 2 (f .1))
+pub lengths : (w p : ℕ) (s : List ℕ) (a n : ℕ) {b : Bool} → b ≡ (hasherFits w p s && eqb a n) → not b ≡ false
+    → ((w ≡ 5) × (p ≡ 64) × (length s ≡ 6)) × (a ≡ n)
+lengths w p s a n e h =
+    let f = fit (hasherFits w p s) (eqb a n) e h in
+    (hasher-lengths w p s (f .0), eqb-true a n (f .1))
 
-pub new-lengths : (w p s flags : ℕ) {b : Bool} → b ≡ newFits w p s flags → not b ≡ false → (w ≡ 5) × (p ≡ 64) × (s ≡ 4)
+pub new-lengths : (w p s flags : ℕ) {b : Bool} → b ≡ newFits w p s flags → not b ≡ false → (w ≡ 5) × (p ≡ 64) × (s ≡ 6)
 new-lengths w p s flags {b} e h =
-    let f = both-true (eqb w 5) (eqb p 64 && (eqb s 4 && flagsKnown flags)) (sym e ∙ not-false b h) in
-    let g = both-true (eqb p 64) (eqb s 4 && flagsKnown flags) (f .1) in
-    (eqb-true w 5 (f .0), eqb-true p 64 (g .0), eqb-true s 4 (both-true (eqb s 4) (flagsKnown flags) (g .1) .0))
+    let f = both-true (eqb w 5) (eqb p 64 && (eqb s 6 && flagsKnown flags)) (sym e ∙ not-false b h) in
+    let g = both-true (eqb p 64) (eqb s 6 && flagsKnown flags) (f .1) in
+    (eqb-true w 5 (f .0), eqb-true p 64 (g .0), eqb-true s 6 (both-true (eqb s 6) (flagsKnown flags) (g .1) .0))

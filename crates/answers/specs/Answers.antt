@@ -6,6 +6,7 @@ use Rattle.word.specs.Choice.{pick}
 use Rattle.refusal.specs.Refusal.{numberOf, placeOf, isNothing}
 use Rattle.refusal.specs.declared.Refusal.{Refusal}
 use Rattle.detect.specs.declared.OneBlock.{OneBlock}
+use Rattle.stream.specs.declared.FirstMark.{FirstMark}
 use Rattle.hasher.specs.declared.Updated.{Updated}
 use Rattle.finish.specs.Finish.{outcomeRefusal}
 use Rattle.finish.specs.declared.Outcome.{Outcome}
@@ -43,9 +44,9 @@ abbrev pub verdictIn : Outcome → ℕ
 verdictIn (Done v) = verdictNumber v
 verdictIn (Refused r) = 0
 
--- the two numbers of an outcome's answer
-abbrev pub outcomeAnswer : Outcome → List ℕ
-outcomeAnswer o = answerPair (verdictIn o) (outcomeRefusal o)
+-- the four numbers of an outcome's answer: the verdict, the place of the refused record, the first marked block and its vector's place
+abbrev pub outcomeAnswer : Outcome → FirstMark → List ℕ
+outcomeAnswer o f = answerPair (verdictIn o) (outcomeRefusal o) ++ f .block ∷ f .place ∷ []
 
 -- what one block leaves where the words before were: the new words, or on a refusal those; mark, place, tried and the refused record's place
 abbrev pub blockLeft : OneBlock → List ℕ → Left
@@ -57,18 +58,18 @@ blockLeft o before =
 abbrev pub updatedLeft : Updated → Left
 updatedLeft u = left (numberOf (u .refusal)) (slicesOf (u .hasher) ++ answerPair 0 (u .refusal) ∷ [])
 
--- what a call leaves that has an output and an outcome
-abbrev pub outcomeLeft : Outcome → List ℕ → Left
-outcomeLeft o out = left (numberOf (outcomeRefusal o)) (out ∷ outcomeAnswer o ∷ [])
+-- what a call leaves that has an output, an outcome and a first mark
+abbrev pub outcomeLeft : Outcome → FirstMark → List ℕ → Left
+outcomeLeft o f out = left (numberOf (outcomeRefusal o)) (out ∷ outcomeAnswer o f ∷ [])
 
--- what the one-shot form leaves where the bytes before were: the digest, or on a refusal those; and the outcome
-abbrev pub digestLeft : Outcome → List ℕ → List ℕ → Left
-digestLeft o digest before = outcomeLeft o (unlessRefused (outcomeRefusal o) digest before)
+-- what the one-shot form leaves where the bytes before were: the digest, or on a refusal those; the outcome and the first mark
+abbrev pub digestLeft : Outcome → FirstMark → List ℕ → List ℕ → Left
+digestLeft o f digest before = outcomeLeft o f (unlessRefused (outcomeRefusal o) digest before)
 
--- what a finish-and-reset leaves, of a hasher and an outcome, around the output that it wrote
+-- what a finish-and-reset leaves, of a hasher, an outcome and a first mark, around the output that it wrote
 abbrev pub finishResetLeft : FinishedReset → List ℕ → Left
 finishResetLeft c out =
-    left (numberOf (outcomeRefusal (c .outcome))) (slicesOf (c .hasher) ++ out ∷ outcomeAnswer (c .outcome) ∷ [])
+    left (numberOf (outcomeRefusal (c .outcome))) (slicesOf (c .hasher) ++ out ∷ outcomeAnswer (c .outcome) (c .first) ∷ [])
 
 -- what a call leaves that says a refusal alone
 abbrev pub refusalLeft : Refusal → Left

@@ -21,6 +21,7 @@ use refusal::Refusal;
 use refusal::is_nothing;
 use refusal::number;
 use refusal::place;
+use stream::FirstMark;
 use verdict::DIGEST_SIZE;
 
 // The number where a caller breaks the header's agreement on lengths, marks, flags and verdicts: no other number is
@@ -56,12 +57,20 @@ pub fn say(answer: &mut [u64], says: u64, r: Refusal) -> u32
     number(r)
 }
 
-// A verdict or a refusal into an answer.
-pub fn put_outcome(answer: &mut [u64], o: Outcome) -> u32
-    requires { ⌜ length (now answer) ≡ 2 ⌝ }
-    ensures { λ n. ⌜ (n ≡ numberOf (outcomeRefusal o)) × (now (answer .exit) ≡ outcomeAnswer o) ⌝ }
+// A verdict or a refusal into an answer, and where the first mark is. The refusal's number comes back.
+pub fn put_outcome(answer: &mut [u64], o: Outcome, first: FirstMark) -> u32
+    requires { ⌜ length (now answer) ≡ 4 ⌝ }
+    ensures { λ n. ⌜ (n ≡ numberOf (outcomeRefusal o)) × (now (answer .exit) ≡ outcomeAnswer o first) ⌝ }
 {
-    say(answer, verdict_in(o), refusal_in(o))
+    let r = refusal_in(o);
+    put_four(
+        answer,
+        verdict_in(o),
+        place(r) as u64,
+        first.block,
+        first.place as u64,
+    );
+    number(r)
 }
 
 // The words that a call gives; where it is refused, nothing is written.
@@ -113,7 +122,7 @@ pub fn leave_updated(
     answer: &mut [u64],
     u: Updated,
 ) -> u32
-    requires { ⌜ ((length (now words) ≡ 5) × (length (now pending) ≡ 64) × (length (now state) ≡ 4)) × (length (now answer) ≡ 2) ⌝ }
+    requires { ⌜ ((length (now words) ≡ 5) × (length (now pending) ≡ 64) × (length (now state) ≡ 6)) × (length (now answer) ≡ 2) ⌝ }
     ensures { λ r. ⌜ left r (now (words .exit) ∷ now (pending .exit) ∷ now (state .exit) ∷ now (answer .exit) ∷ []) ≡ updatedLeft u ⌝ }
 {
     let h = u.hasher;
@@ -123,12 +132,18 @@ pub fn leave_updated(
 }
 
 // What the one-shot form leaves: the digest, where it is not refused, and an answer.
-pub fn leave_digest(digest: &mut [u8], answer: &mut [u64], d: [u8; DIGEST_SIZE], o: Outcome) -> u32
-    requires { ⌜ (length (now digest) ≡ digestSize) × (length (now answer) ≡ 2) ⌝ }
-    ensures { λ r. ⌜ left r (now (digest .exit) ∷ now (answer .exit) ∷ []) ≡ digestLeft o d (now (digest .entry)) ⌝ }
+pub fn leave_digest(
+    digest: &mut [u8],
+    answer: &mut [u64],
+    d: [u8; DIGEST_SIZE],
+    o: Outcome,
+    first: FirstMark,
+) -> u32
+    requires { ⌜ (length (now digest) ≡ digestSize) × (length (now answer) ≡ 4) ⌝ }
+    ensures { λ r. ⌜ left r (now (digest .exit) ∷ now (answer .exit) ∷ []) ≡ digestLeft o first d (now (digest .entry)) ⌝ }
 {
     give_digest(digest, refusal_in(o), d);
-    put_outcome(answer, o)
+    put_outcome(answer, o, first)
 }
 
 // What a finish-and-reset leaves: the hasher and an answer, around the output that it wrote before.
@@ -140,11 +155,12 @@ pub fn leave_finish_reset(
     answer: &mut [u64],
     c: FinishedReset,
 ) -> u32
-    requires { ⌜ ((length (now words) ≡ 5) × (length (now pending) ≡ 64) × (length (now state) ≡ 4)) × (length (now answer) ≡ 2) ⌝ }
+    requires { ⌜ ((length (now words) ≡ 5) × (length (now pending) ≡ 64) × (length (now state) ≡ 6)) × (length (now answer) ≡ 4) ⌝ }
     ensures { λ r. ⌜ left r (now (words .exit) ∷ now (pending .exit) ∷ now (state .exit) ∷ now (out .entry) ∷ now (answer .exit) ∷ []) ≡ finishResetLeft c (now (out .entry)) ⌝ }
 {
     let h = c.hasher;
     let outcome = c.outcome;
+    let first = c.first;
     put_hasher(words, pending, state, h);
-    put_outcome(answer, outcome)
+    put_outcome(answer, outcome, first)
 }

@@ -82,7 +82,7 @@ few-of : (count lane : ℕ) → Holds (hasLane count lane) → count ≤ 16
 unfolding hasLane
 few-of count lane h = leb→le count mostLanes (both (leb count mostLanes) (ltb lane count) (both (leb 1 count) (leb count mostLanes && ltb lane count) h .1) .0)
 
-pub scaled : (count lane : ℕ) → Holds (hasLane count lane) → lane * 112 < 2 ^ 64
+pub scaled : (count lane : ℕ) → Holds (hasLane count lane) → lane * 128 < 2 ^ 64
 scaled count lane h = omega (arith, within-of count lane h, few-of count lane h)
 
 -- what is known of the refusal of a lane
@@ -133,7 +133,7 @@ module _ (κ : Lft) (b o : ℕ) (γ : GName) (ys : List Hasher) where
 
   -- the cell of the lane's hasher, of what is there
   abbrev pub Cell : ℕ → Hasher → Fml
-  Cell lane h = cellAt fullShare (T.the-row .mir) (mach h ∷ []) b (lane * 112 + o)
+  Cell lane h = cellAt fullShare (T.the-row .mir) (mach h ∷ []) b (lane * 128 + o)
 
   -- the bench without the lane's hasher, its borrow open
   abbrev pub Opened : {M : Type 1} {𝓤 : URA M} → Share → ℕ → List (Item 𝓤) → List (Item 𝓤)
@@ -147,13 +147,13 @@ module _ (κ : Lft) (b o : ℕ) (γ : GName) (ys : List Hasher) where
     taken-out t z lane within k =
         fsplit t $ drop t $ fsplit t $ opens-slice t z T.the-row ys b o $
         elem-out t T.the-row (Is T.the-row) (shows 𝓤 H A T.the-row) (LL.vals T.the-type T′.the-laws) (LL.tells T.the-type T′.the-laws) fullShare ys lane (freshOf defaults) b o within (λ was. move t (1 ∷ []) $ drop t $
-        rewrite t 0 (λ (p : ℕ). ‵ (cellAt fullShare (T.the-row .mir) (mach (laneOf ys lane) ∷ []) b p)) (place-is 112 o lane) refl $ k was)
+        rewrite t 0 (λ (p : ℕ). ‵ (cellAt fullShare (T.the-row .mir) (mach (laneOf ys lane) ∷ []) b p)) (place-is 128 o lane) refl $ k was)
 
     -- another hasher is put in its place, and the borrow is closed
     pub put-back : K → Soaks G → (lane : ℕ) → lane < length ys → Room T.the-row (length ys) → (h : Hasher) → Is T.the-row h (mach h ∷ [])
         → Step K W (‵ (Bench (set ys lane h)) ∷ ‵ (flft κ q) ∷ Γ) G (‵ (Cell lane h) ∷ Opened q lane Γ) G
     put-back t z lane within room h is = step (λ s.
-        rewrite t 0 (λ (p : ℕ). ‵ (cellAt fullShare (T.the-row .mir) (mach h ∷ []) b p)) (sym (place-is 112 o lane)) refl $
+        rewrite t 0 (λ (p : ℕ). ‵ (cellAt fullShare (T.the-row .mir) (mach h ∷ []) b p)) (sym (place-is 128 o lane)) refl $
         owned t T.the-row (Is T.the-row) (LL.makes T.the-type T′.the-plain 𝓤 H A) h _ is $ move t (1 ∷ 0 ∷ []) $ elem-put t T.the-row fullShare ys lane h (mach h ∷ []) b o within $
         closes-slice t z T.the-row ys (set ys lane h) (length-set ys lane h) b o $ fjoin t $
         pureI t (at-slice T.the-row (lentBench (set ys lane h)) (vb ∷ [])) (tt, (tt, tt)) (ap (λ (m : ℕ). sliceVal (b, o) m ∷ []) (sym (length-set ys lane h)), subst (Room T.the-row) (sym (length-set ys lane h)) room) $ fjoin t $ s)

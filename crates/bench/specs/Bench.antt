@@ -7,6 +7,8 @@ use Rattle.refusal.specs.declared.Refusal.{Refusal}
 use Rattle.refusal.specs.declared.Refusal.the-variants.{NoLane}
 use Rattle.flags.specs.Flags.{defaults}
 use Rattle.loan.specs.Loan.{Loan}
+use Rattle.stream.specs.Fold.{nowhere}
+use Rattle.stream.specs.declared.FirstMark.{FirstMark}
 use Rattle.hasher.specs.Hasher.{freshOf, resetOf}
 use Rattle.hasher.specs.declared.Hasher.{Hasher}
 use Rattle.update.specs.Update.{updated}
@@ -14,6 +16,7 @@ use Rattle.finish.specs.Finish.{finishedReset, writtenOut}
 use Rattle.finish.specs.declared.Outcome.{Outcome}
 use Rattle.finish.specs.declared.Outcome.the-variants.{Refused}
 use Rattle.lane.specs.Lane.{hasLane}
+use Rattle.bench.specs.declared.LaneAnswer.{LaneAnswer}
 
 -- the hasher on a lane; past the end a new one, which no call gets to
 abbrev pub laneOf : List Hasher → ℕ → Hasher
@@ -35,9 +38,17 @@ laneUpdateRefusal bench lane bytes l = onLane bench lane (λ h. updated h bytes 
 abbrev pub laneUpdated : List Hasher → ℕ → List ℕ → Loan → List Hasher
 laneUpdated bench lane bytes l = changed bench lane (λ h. updated h bytes l .hasher)
 
--- the outcome of a lane's finish-and-reset into a lent output
+-- the outcome of a lane's finish-and-reset into a lent output: 10, then the outcome of the finish-and-reset of its hasher
 abbrev pub laneOutcome : List Hasher → ℕ → List ℕ → Loan → Outcome
 laneOutcome bench lane out l = onLane bench lane (λ h. finishedReset h (length out) l .outcome) (Refused NoLane)
+
+-- the first mark that it hands out: that of the finish-and-reset of the lane's hasher, padding counted; zeros where there is no such lane
+abbrev pub laneFirst : List Hasher → ℕ → List ℕ → Loan → FirstMark
+laneFirst bench lane out l = onLane bench lane (λ h. finishedReset h (length out) l .first) nowhere
+
+-- what it answers
+abbrev pub laneAnswer : List Hasher → ℕ → List ℕ → Loan → LaneAnswer
+laneAnswer bench lane out l = record { outcome = laneOutcome bench lane out l; first = laneFirst bench lane out l }
 
 -- the bench that it leaves
 abbrev pub laneFinished : List Hasher → ℕ → List ℕ → Loan → List Hasher

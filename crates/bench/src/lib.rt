@@ -1,14 +1,22 @@
 // A bench of hashers, lent as one slice; a call names its lane. Each call is thin: the by-value call does the work.
 ghost use mathlib.Core.Path.{_≡_};
 ghost use Rattle.loan.specs.Loan.{loanOf};
-ghost use Rattle.bench.specs.Bench.{laneUpdateRefusal, laneUpdated, laneOutcome, laneFinished, laneWritten, laneResetRefusal, laneReset};
+ghost use Rattle.bench.specs.Bench.{laneUpdateRefusal, laneUpdated, laneAnswer, laneFinished, laneWritten, laneResetRefusal, laneReset};
 use finish::Outcome;
 use finish::finish_and_reset;
 use hasher::Hasher;
 use hasher::reset;
 use lane::has_lane;
 use refusal::Refusal;
+use stream::FirstMark;
 use update::update;
+
+// What a lane's finish answers beside the bytes that it writes.
+pub struct LaneAnswer {
+    pub outcome: Outcome,
+    // The first marked block of the lane's message, padding counted, and the place of the vector that marked it; zeros where none was.
+    pub first: FirstMark,
+}
 
 // A piece of the message of one lane.
 pub fn lane_update(
@@ -38,15 +46,22 @@ pub fn lane_finish(
     table: &[u32],
     conditions: &[u32],
     masks: &[u32],
-) -> Outcome
-    ensures { λ r. ⌜ (now (bench .exit) ≡ laneFinished (now (bench .entry)) lane (now (out .entry)) (loanOf (now (table .entry)) (now (conditions .entry)) (now (masks .entry)))) × (now (out .exit) ≡ laneWritten (now (bench .entry)) lane (now (out .entry)) (loanOf (now (table .entry)) (now (conditions .entry)) (now (masks .entry)))) × (r ≡ laneOutcome (now (bench .entry)) lane (now (out .entry)) (loanOf (now (table .entry)) (now (conditions .entry)) (now (masks .entry)))) ⌝ }
+) -> LaneAnswer
+    ensures { λ r. ⌜ (now (bench .exit) ≡ laneFinished (now (bench .entry)) lane (now (out .entry)) (loanOf (now (table .entry)) (now (conditions .entry)) (now (masks .entry)))) × (now (out .exit) ≡ laneWritten (now (bench .entry)) lane (now (out .entry)) (loanOf (now (table .entry)) (now (conditions .entry)) (now (masks .entry)))) × (r ≡ laneAnswer (now (bench .entry)) lane (now (out .entry)) (loanOf (now (table .entry)) (now (conditions .entry)) (now (masks .entry)))) ⌝ }
 {
     if has_lane(bench.len(), lane) {
         let f = finish_and_reset(bench[lane], out, table, conditions, masks);
         bench[lane] = f.hasher;
-        return f.outcome;
+        let first = f.first;
+        return LaneAnswer {
+            outcome: f.outcome,
+            first,
+        };
     } else {
-        return Outcome::Refused(Refusal::NoLane);
+        return LaneAnswer {
+            outcome: Outcome::Refused(Refusal::NoLane),
+            first: FirstMark { block: 0, place: 0 },
+        };
     }
 }
 

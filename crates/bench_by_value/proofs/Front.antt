@@ -86,7 +86,7 @@ together-is n zs is gis = LL.owes U.the-type U′.the-laws (put-together n zs) (
 pub counted : (count : ℕ) (xs : List Hasher) → count ≤ 17 → Is R xs (marr xs ∷ []) → length (take count xs) ≡ count
 counted count xs few is = length-take-le count xs (subst (λ (m : ℕ). count ≤ m) (sym (is .1 .0 .1)) few)
 
-roomy : (m : ℕ) → m ≤ 17 → (m < 2 ^ 64) × (m * 112 < 2 ^ 63)
+roomy : (m : ℕ) → m ≤ 17 → (m < 2 ^ 64) × (m * 128 < 2 ^ 63)
 roomy m few = (omega (arith, few), omega (arith, few))
 
 room : (count : ℕ) (xs : List Hasher) → Is R xs (marr xs ∷ []) → Room T.the-row (length (take count xs))

@@ -4,7 +4,7 @@ use Prim.Native.Nat.{ℕ}
 use lib.ListN.{take, drop}
 use Rattle.loan.specs.Loan.{Loan}
 use Rattle.hasher.specs.declared.Hasher.{Hasher}
-use Rattle.bench.specs.Bench.{laneUpdateRefusal, laneUpdated, laneOutcome, laneFinished, laneWritten, laneResetRefusal, laneReset}
+use Rattle.bench.specs.Bench.{laneUpdateRefusal, laneUpdated, laneOutcome, laneFirst, laneFinished, laneWritten, laneResetRefusal, laneReset}
 use Rattle.bench_by_value.specs.declared.Benched.{Benched}
 use Rattle.bench_by_value.specs.declared.BenchFinished.{BenchFinished}
 
@@ -23,6 +23,7 @@ updatedThrough bench count lane bytes l = record {
 abbrev pub finishedThrough : List Hasher → ℕ → ℕ → List ℕ → Loan → BenchFinished
 finishedThrough bench count lane out l = record {
   outcome = laneOutcome (take count bench) lane out l;
+  first = laneFirst (take count bench) lane out l;
   bench = refronted bench count (laneFinished (take count bench) lane out l);
 }
 

@@ -10,6 +10,7 @@ use bench::lane_update;
 use finish::Outcome;
 use hasher::Hasher;
 use refusal::Refusal;
+use stream::FirstMark;
 
 // What a lane call refused, and all hashers afterwards.
 pub struct Benched {
@@ -20,6 +21,7 @@ pub struct Benched {
 // What a lane's finish gave, and all hashers afterwards.
 pub struct BenchFinished {
     pub outcome: Outcome,
+    pub first: FirstMark,
     pub bench: [Hasher; 17],
 }
 
@@ -55,8 +57,13 @@ pub fn finish_through(
     ensures { λ r. ⌜ (now (out .exit) ≡ writtenThrough bench count lane (now (out .entry)) (loanOf (now (table .entry)) (now (conditions .entry)) (now (masks .entry)))) × (r ≡ finishedThrough bench count lane (now (out .entry)) (loanOf (now (table .entry)) (now (conditions .entry)) (now (masks .entry)))) ⌝ }
 {
     let mut b = bench;
-    let outcome = lane_finish(&mut b[..count], lane, out, table, conditions, masks);
-    BenchFinished { outcome, bench: b }
+    let a = lane_finish(&mut b[..count], lane, out, table, conditions, masks);
+    let first = a.first;
+    BenchFinished {
+        outcome: a.outcome,
+        first,
+        bench: b,
+    }
 }
 
 // Everything on one lane but its flags as at the start, on the bench of the first `count` hashers.

@@ -8,14 +8,14 @@ use Rattle.flags.specs.declared.Flags.{Flags}
 use Rattle.loan.specs.Loan.{Tables, Loan, lend}
 use Rattle.hasher.specs.Hasher.{freshOf}
 use Rattle.hasher.specs.declared.Hasher.{Hasher}
-use Rattle.finish.specs.declared.Outcome.{Outcome}
 use Rattle.bench.specs.Bench.{laneOf}
 use Rattle.claims.specs.Pieces.{Piece, hashed}
 use Rattle.bench_claims.specs.Calls.{finishing, resetting, Response, ofOutcome, responseNumber, benchAfter, LaneCall, runResponses, runBench, getsAfter, LaneThere}
-use Rattle.bench_claims.specs.OwnMessage.{lastOutcome, lastWritten, LaneMessage}
+use Rattle.bench_claims.specs.OwnMessage.{lastOutcome, lastFirst, lastWritten, LaneMessage}
 use Rattle.bench_claims.specs.Several.{finishOf}
+use Rattle.bench_claims.proofs.Lanes.{same-response}
 use Rattle.bench_claims.proofs.Order.{run-append, responses-append}
-use Rattle.bench_claims.proofs.OwnMessage.{lane-outcome, lane-digest}
+use Rattle.bench_claims.proofs.OwnMessage.{lane-outcome, lane-first, lane-digest}
 use Rattle.bench_claims.proofs.EveryCall.{reset-leaves-new, finish-leaves-new, lane-flags}
 
 -- A run gets a response for each of its calls,
@@ -36,22 +36,22 @@ module _ (bench : List Hasher) (before run : List LaneCall) (lane : ℕ) (t : Ta
 
   -- What it gets after two parts of a run is what it gets after the second on the bench that the first leaves.
   pub finish-anywhere : getsAfter bench (before ++ run) ending
-      ≡ ofOutcome (lastOutcome (runBench bench before) run lane out t last) (lastWritten (runBench bench before) run lane out t last)
+      ≡ ofOutcome (lastOutcome (runBench bench before) run lane out t last) (lastFirst (runBench bench before) run lane out t last) (lastWritten (runBench bench before) run lane out t last)
   finish-anywhere = ap (λ (b : List Hasher). getsAfter b [] ending) (run-append before run bench)
 
   -- So where a lane's message begins after the first part, all theorems on messages hold of what the finish gets: here, what it gets by value.
   pub message-anywhere : (f : Flags) (ps : List Piece) → LaneMessage (runBench bench before) run lane f t ps out last
-      → getsAfter bench (before ++ run) ending ≡ ofOutcome (hashed f t ps last .outcome) (hashed f t ps last .digest)
+      → getsAfter bench (before ++ run) ending ≡ ofOutcome (hashed f t ps last .outcome) (hashed f t ps last .first) (hashed f t ps last .digest)
   message-anywhere f ps m =
       let met = runBench bench before in
       finish-anywhere
-      ∙ ap₂ (λ (o : Outcome) (xs : List ℕ). ofOutcome o xs) (lane-outcome met run lane f t ps out last m) (lane-digest met run lane f t ps out last m)
+      ∙ same-response (lane-outcome met run lane f t ps out last m) (lane-first met run lane f t ps out last m) (lane-digest met run lane f t ps out last m)
 
   -- And that is the response at its place in the whole run, with any calls after it.
   pub message-response : (after : List LaneCall) → runResponses bench (before ++ run ++ ending ∷ after)
       ≡ runResponses bench before
       ++ runResponses (runBench bench before) run
-      ++ ofOutcome (lastOutcome (runBench bench before) run lane out t last) (lastWritten (runBench bench before) run lane out t last)
+      ++ ofOutcome (lastOutcome (runBench bench before) run lane out t last) (lastFirst (runBench bench before) run lane out t last) (lastWritten (runBench bench before) run lane out t last)
       ∷ runResponses (benchAfter (runBench bench (before ++ run)) lane (finishing out (lend t last))) after
   message-response after =
       response-at bench (before ++ run) ending after

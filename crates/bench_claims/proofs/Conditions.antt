@@ -21,7 +21,7 @@ use Rattle.hasher.specs.declared.Hasher.{Hasher}
 use Rattle.absorb.specs.Absorb.{streamOf}
 use Rattle.finish.specs.Finish.{outcomeNumber}
 use Rattle.finish.specs.declared.Outcome.{Outcome}
-use Rattle.bench.specs.Bench.{laneOf, onLane, laneUpdateRefusal, laneUpdated, laneOutcome, laneFinished, laneWritten}
+use Rattle.bench.specs.Bench.{laneOf, onLane, laneUpdateRefusal, laneUpdated, laneOutcome, laneFirst, laneFinished, laneWritten}
 use Rattle.claims.specs.Refusals.{WellFormed}
 use Rattle.claims.specs.Sound.{Typed, TypedVectors, TypedConditions}
 use Rattle.claims.specs.Pieces.{Piece, bytesOf, pieceMasks, loanOfAll}
@@ -33,10 +33,10 @@ use Rattle.claims.proofs.Selected.{update-selected, finish-reset-selected, mess
 use Rattle.claims.proofs.Unseen.{update-unmasked, finish-reset-unmasked, output-unmasked, conditions-no-masks, update-unconditioned, finish-reset-unconditioned, output-unconditioned}
 use Rattle.claims.proofs.BothSettings.{message-surviving}
 use Rattle.bench_claims.specs.Calls.{updating, LaneCall, LaneThere}
-use Rattle.bench_claims.specs.OwnMessage.{lastOutcome, lastWritten, LaneMessage}
+use Rattle.bench_claims.specs.OwnMessage.{lastOutcome, lastFirst, lastWritten, LaneMessage}
 use Rattle.bench_claims.proofs.Refused.{lane-update-line, lane-finish-line, lane-finish-there}
 use Rattle.bench_claims.proofs.Others.{call-own}
-use Rattle.bench_claims.proofs.OwnMessage.{not-refused, lane-none-refused, lane-outcome, lane-digest}
+use Rattle.bench_claims.proofs.OwnMessage.{not-refused, lane-none-refused, lane-outcome, lane-first, lane-digest}
 use Rattle.bench_claims.proofs.EveryCall.{number-0}
 
 -- 12 and 13 are not 10
@@ -112,10 +112,11 @@ module _ (bench : List Hasher) (lane : ℕ) (off : usesConditions (laneOf bench 
       → (laneOutcome bench lane out (loanOf vectors conditions masks) ≡ laneOutcome bench lane out (loanOf vectors others masks))
       × (laneFinished bench lane out (loanOf vectors conditions masks) ≡ laneFinished bench lane out (loanOf vectors others masks))
       × (laneWritten bench lane out (loanOf vectors conditions masks) ≡ laneWritten bench lane out (loanOf vectors others masks))
+      × (laneFirst bench lane out (loanOf vectors conditions masks) ≡ laneFirst bench lane out (loanOf vectors others masks))
   unfolding onLane
   lane-finish-unconditioned out =
       let e = finish-reset-unconditioned (laneOf bench lane) off vectors conditions others masks (length out) in
-      (rw e, rw e, rw (output-unconditioned (laneOf bench lane) off vectors conditions others masks out))
+      (rw e, rw e, rw (output-unconditioned (laneOf bench lane) off vectors conditions others masks out), rw e)
 
 -- and masks in this one.
 module _ (bench : List Hasher) (lane : ℕ) (on : usesConditions (laneOf bench lane .flags) ≡ true) (t : Tables) (masks others : List ℕ) where
@@ -129,11 +130,12 @@ module _ (bench : List Hasher) (lane : ℕ) (on : usesConditions (laneOf bench l
   pub lane-finish-unmasked : (out : List ℕ) → (laneOutcome bench lane out (lend t masks) ≡ laneOutcome bench lane out (lend t others))
       × (laneFinished bench lane out (lend t masks) ≡ laneFinished bench lane out (lend t others))
       × (laneWritten bench lane out (lend t masks) ≡ laneWritten bench lane out (lend t others))
+      × (laneFirst bench lane out (lend t masks) ≡ laneFirst bench lane out (lend t others))
   unfolding onLane
   lane-finish-unmasked out =
       let off = conditions-no-masks (laneOf bench lane .flags) on in
       let e = finish-reset-unmasked (laneOf bench lane) off t masks others (length out) in
-      (rw e, rw e, rw (output-unmasked (laneOf bench lane) off t masks others out))
+      (rw e, rw e, rw (output-unmasked (laneOf bench lane) off t masks others out), rw e)
 
 -- A lane's message gives its verdict by whether detection is on and a record that is selected for one of its blocks, padding included, meets it.
 pub lane-message-selected : (bench : List Hasher) (run : List LaneCall) (lane : ℕ) (f : Flags) (t : Tables) (ps : List Piece) (out last : List ℕ)
@@ -153,6 +155,7 @@ pub lane-surviving : (bench other-bench : List Hasher) (run other-run : List Lan
     → bytesOf qs ≡ bytesOf ps → pieceMasks qs ++ rest ≡ messageMasks t (bytesOf ps)
     → (lastOutcome bench run lane out t last ≡ lastOutcome other-bench other-run other-lane other-out t rest)
     × (lastWritten bench run lane out t last ≡ lastWritten other-bench other-run other-lane other-out t rest)
+    × (lastFirst bench run lane out t last ≡ lastFirst other-bench other-run other-lane other-out t rest)
 lane-surviving bench other-bench run other-run lane other-lane f t ps qs out last other-out rest m n same lent =
     let c = withMasks f Conditions in
     let d = withMasks f Lent in
@@ -162,4 +165,5 @@ lane-surviving bench other-bench run other-run lane other-lane f t ps qs out las
     in (
       lane-outcome bench run lane c t ps out last m ∙ e .0 ∙ sym (lane-outcome other-bench other-run other-lane d t qs other-out rest n),
       lane-digest bench run lane c t ps out last m ∙ e .1 ∙ sym (lane-digest other-bench other-run other-lane d t qs other-out rest n),
+      lane-first bench run lane c t ps out last m ∙ e .2 ∙ sym (lane-first other-bench other-run other-lane d t qs other-out rest n),
     )

@@ -25,8 +25,8 @@ use Rattle.claims.proofs.Siblings.{ok-met, mitigated-met, collision-met}
 use Rattle.claims.proofs.EveryCall.{message-met}
 use Rattle.claims.proofs.Cut.{cut-alike}
 use Rattle.bench_claims.specs.Calls.{LaneCall}
-use Rattle.bench_claims.specs.OwnMessage.{lastOutcome, lastWritten, LaneMessage}
-use Rattle.bench_claims.proofs.OwnMessage.{lane-none-refused, lane-outcome, lane-digest}
+use Rattle.bench_claims.specs.OwnMessage.{lastOutcome, lastFirst, lastWritten, LaneMessage}
+use Rattle.bench_claims.proofs.OwnMessage.{lane-none-refused, lane-outcome, lane-first, lane-digest}
 
 -- what is said of one outcome is said of an equal one
 same-outcome : {o p : Outcome} {v : Verdict} {P : Type 0} → o ≡ p → (p ≡ Done v) ↔ P → (o ≡ Done v) ↔ P
@@ -110,6 +110,7 @@ pub lane-alike : (bench other-bench : List Hasher) (run other-run : List LaneCal
     → blockMasks f ps last ≡ blockMasks f qs rest
     → (lastOutcome bench run lane out t last ≡ lastOutcome other-bench other-run other-lane other-out t rest)
     × (lastWritten bench run lane out t last ≡ lastWritten other-bench other-run other-lane other-out t rest)
+    × (lastFirst bench run lane out t last ≡ lastFirst other-bench other-run other-lane other-out t rest)
 lane-alike bench other-bench run other-run lane other-lane f t ps qs out last other-out rest m n same masks =
     let e =
     cut-alike f t ps qs last rest
@@ -117,4 +118,5 @@ lane-alike bench other-bench run other-run lane other-lane f t ps qs out last ot
     in (
       own-outcome bench run lane f t ps out last m ∙ e .0 ∙ sym (own-outcome other-bench other-run other-lane f t qs other-out rest n),
       own-digest bench run lane f t ps out last m ∙ e .1 ∙ sym (own-digest other-bench other-run other-lane f t qs other-out rest n),
+      lane-first bench run lane f t ps out last m ∙ e .2 ∙ sym (lane-first other-bench other-run other-lane f t qs other-out rest n),
     )

@@ -11,9 +11,15 @@ use lib.ListN.{length, set}
 use Rattle.word.proofs.Tests.{both-true, one-false, unless-true}
 use Rattle.refusal.proofs.Chains.{Decides}
 use Rattle.lane.specs.Lane.{mostLanes, hasLane}
+use Rattle.stream.specs.declared.FirstMark.{FirstMark}
 use Rattle.hasher.specs.declared.Hasher.{Hasher}
+use Rattle.finish.specs.declared.Outcome.{Outcome}
 use Rattle.bench.specs.Bench.{laneOf, onLane}
-use Rattle.bench_claims.specs.Calls.{Call, updating, finishing, resetting, turnedAway, responseOf, afterCall, laneResponse, benchAfter, NoSuchLane, LaneThere}
+use Rattle.bench_claims.specs.Calls.{Call, updating, finishing, resetting, ofOutcome, turnedAway, responseOf, afterCall, laneResponse, benchAfter, NoSuchLane, LaneThere}
+
+-- what a finish gets, part by part
+pub same-response : {o p : Outcome} {a b : FirstMark} {xs ys : List ℕ} → o ≡ p → a ≡ b → xs ≡ ys → ofOutcome o a xs ≡ ofOutcome p b ys
+same-response e f g = rw (e, f, g)
 
 -- a bench as long as one that has a lane has it too
 pub as-long-there : (bench other : List Hasher) (lane : ℕ) → length other ≡ length bench → LaneThere bench lane → LaneThere other lane

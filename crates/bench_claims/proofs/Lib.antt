@@ -9,6 +9,7 @@ pub mod Conditions
 pub mod Anywhere
 pub mod Several
 pub mod EveryCall
+pub mod First
 pub mod Kept
 pub mod Every
 pub mod Settled

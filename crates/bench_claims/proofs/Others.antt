@@ -7,6 +7,7 @@ use lib.Seq.{getD-set-same, getD-set-other, set-getD}
 use Rattle.refusal.specs.Refusal.{numberOf}
 use Rattle.flags.specs.Flags.{defaults}
 use Rattle.loan.specs.Loan.{Loan}
+use Rattle.stream.specs.Fold.{nowhere}
 use Rattle.hasher.specs.Hasher.{freshOf}
 use Rattle.hasher.specs.declared.Hasher.{Hasher}
 use Rattle.hasher.specs.declared.Updated.{Updated}
@@ -14,10 +15,10 @@ use Rattle.finish.specs.Finish.{outcomeRefusal, outcomeNumber}
 use Rattle.finish.specs.declared.Outcome.{Outcome}
 use Rattle.finish.specs.declared.Outcome.the-variants.{Done, Refused}
 use Rattle.finish.specs.declared.FinishedReset.{FinishedReset}
-use Rattle.bench.specs.Bench.{laneOf, laneUpdateRefusal, laneUpdated, laneOutcome, laneFinished, laneWritten, laneResetRefusal, laneReset, onLane}
+use Rattle.bench.specs.Bench.{laneOf, laneUpdateRefusal, laneUpdated, laneOutcome, laneFirst, laneFinished, laneWritten, laneResetRefusal, laneReset, onLane}
 use Rattle.claims.proofs.Refusals.{update-refused, finish-reset-refused, reset-0, reset-refused}
-use Rattle.bench_claims.specs.Calls.{Call, updating, finishing, resetting, ofOutcome, responseNumber, refusalIn, refusedWith, responseOf, afterCall, laneResponse, benchAfter, NoSuchLane, LaneThere}
-use Rattle.bench_claims.proofs.Lanes.{as-long-there, either-lane, has-decides, response-there, after-there, after-away}
+use Rattle.bench_claims.specs.Calls.{Call, updating, finishing, resetting, responseNumber, refusalIn, refusedWith, responseOf, afterCall, laneResponse, benchAfter, NoSuchLane, LaneThere}
+use Rattle.bench_claims.proofs.Lanes.{same-response, as-long-there, either-lane, has-decides, response-there, after-there, after-away}
 use Rattle.bench_claims.proofs.Refused.{lane-finish-there}
 
 -- A refused call by value gives the hasher back as it was.
@@ -65,9 +66,9 @@ pub lane-update-refused : (bench : List Hasher) (lane : ℕ) (bytes : List ℕ) 
     → laneUpdated bench lane bytes l ≡ bench
 lane-update-refused bench lane bytes l = refused-keeps bench lane (updating bytes l)
 
--- A refused finish, which writes nothing:
+-- A refused finish, which writes nothing and hands out zeros:
 pub lane-finish-refused : (bench : List Hasher) (lane : ℕ) (out : List ℕ) (l : Loan) → (outcomeNumber (laneOutcome bench lane out l) ≡ 0 → ⊥)
-    → (laneFinished bench lane out l ≡ bench) × (laneWritten bench lane out l ≡ out)
+    → (laneFinished bench lane out l ≡ bench) × (laneWritten bench lane out l ≡ out) × (laneFirst bench lane out l ≡ nowhere)
 unfolding onLane
 lane-finish-refused bench lane out l n = (
   refused-keeps bench lane (finishing out l) n,
@@ -75,6 +76,11 @@ lane-finish-refused bench lane out l n = (
       (λ h.
       let w = lane-finish-there bench lane out l h in
       w .2 ∙ finish-reset-refused (laneOf bench lane) out l (λ e. n (ap outcomeNumber (w .0) ∙ e)) .1)
+      (λ k. rw (has-decides bench lane .off .1 k)),
+  either-lane bench lane (laneFirst bench lane out l ≡ nowhere)
+      (λ h.
+      let w = lane-finish-there bench lane out l h in
+      w .3 ∙ ap (λ (f : FinishedReset). f .first) (finish-reset-refused (laneOf bench lane) out l (λ e. n (ap outcomeNumber (w .0) ∙ e)) .0))
       (λ k. rw (has-decides bench lane .off .1 k)),
 )
 
@@ -87,10 +93,11 @@ outcome-refused : (o : Outcome) → (outcomeNumber o ≡ 0 → ⊥) → o ≡ Re
 outcome-refused (Done v) n = absurd (n refl)
 outcome-refused (Refused r) n = refl
 
--- So any refused call gets the refusal that its response carries, and its output as it was lent, and nothing else.
+-- So any refused call gets the refusal that its response carries, zeros for a first mark, and its output as it was lent, and nothing else.
 pub refused-gets : (bench : List Hasher) (lane : ℕ) (c : Call) → (responseNumber (laneResponse bench lane c) ≡ 0 → ⊥)
     → laneResponse bench lane c ≡ refusedWith (refusalIn (laneResponse bench lane c)) c
 refused-gets bench lane (updating bytes l) n = refl
 refused-gets bench lane (finishing out l) n =
-    ap₂ (λ (o : Outcome) (xs : List ℕ). ofOutcome o xs) (outcome-refused (laneOutcome bench lane out l) n) (lane-finish-refused bench lane out l n .1)
+    let k = lane-finish-refused bench lane out l n in
+    same-response (outcome-refused (laneOutcome bench lane out l) n) (k .2) (k .1)
 refused-gets bench lane resetting n = refl

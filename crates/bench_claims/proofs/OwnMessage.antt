@@ -25,12 +25,12 @@ use Rattle.finish.specs.declared.Outcome.the-variants.{Refused}
 use Rattle.bench.specs.Bench.{laneOf, laneFinished}
 use Rattle.claims.specs.Pieces.{Piece, piecewise, taking, hashed, NoneRefused}
 use Rattle.claims.proofs.Refusals.{finish-reset-0}
-use Rattle.claims.proofs.FinishReset.{finish-reset-outcome, finish-reset-writes}
+use Rattle.claims.proofs.FinishReset.{finish-reset-outcome, finish-reset-first, finish-reset-writes}
 use Rattle.claims.proofs.Kept.{pieces-flags}
 use Rattle.claims.proofs.Piecewise.{updatedBy, piecewise-nil, piecewise-cons}
 use Rattle.claims.proofs.Several.{finish-reset-fresh}
 use Rattle.bench_claims.specs.Calls.{Call, updating, finishing, responseNumber, responseOf, afterCall, responsesOf, afterCalls, LaneCall, runBench, ownCalls, LaneThere}
-use Rattle.bench_claims.specs.OwnMessage.{updatesWith, acceptedCalls, lastOutcome, lastWritten, LaneMessage}
+use Rattle.bench_claims.specs.OwnMessage.{updatesWith, acceptedCalls, lastOutcome, lastFirst, lastWritten, LaneTaking, LaneMessage}
 use Rattle.bench_claims.proofs.Lanes.{as-long-there}
 use Rattle.bench_claims.proofs.Refused.{lane-finish-line, lane-finish-there}
 use Rattle.bench_claims.proofs.Others.{call-kept, call-own}
@@ -82,6 +82,16 @@ not-refused h size l =
     let r = finishRefusal h size l in
     of-refusal (λ (o : Outcome). outcomeNumber o ≡ 0 → r ≡ Nothing) r _ (Refused r) (λ e k. e) (λ e k. nothing-is r (eq-eqb (numberOf r) 0 k))
 
+-- The hasher of a lane after a run in which it accepts updates alone is that after these by value, from a new one, and none of them is refused.
+pub lane-taken : (bench : List Hasher) (run : List LaneCall) (lane : ℕ) (f : Flags) (t : Tables) (ps : List Piece) → LaneTaking bench run lane f t ps
+    → taking f t ps ≡ record { refusal = Nothing; hasher = laneOf (runBench bench run) lane }
+lane-taken bench run lane f t ps m =
+    let e : acceptedCalls (ownCalls lane run) (responsesOf (freshOf f) (ownCalls lane run)) ≡ updatesWith t ps =
+    ap (acceptedCalls (ownCalls lane run)) (ap (λ (h : Hasher). responsesOf h (ownCalls lane run)) (sym (m .starts)) ∙ sym (responses-alone run bench lane (m .has)))
+    ∙ m .updates
+    in
+    rw (lane-alone run bench lane (m .has), m .starts) (accepted-taken (ownCalls lane run) (freshOf f) t ps e)
+
 module _ (bench : List Hasher) (run : List LaneCall) (lane : ℕ) (f : Flags) (t : Tables) (ps : List Piece) (out last : List ℕ)
     (m : LaneMessage bench run lane f t ps out last) where
   -- the lane is there after the run, and so before it
@@ -93,12 +103,7 @@ module _ (bench : List Hasher) (run : List LaneCall) (lane : ℕ) (f : Flags) (t
 
   -- the lane's hasher after the run is that after the message's updates, of which none is refused
   taken-is : taking f t ps ≡ record { refusal = Nothing; hasher = laneOf (runBench bench run) lane }
-  taken-is =
-      let e : acceptedCalls (ownCalls lane run) (responsesOf (freshOf f) (ownCalls lane run)) ≡ updatesWith t ps =
-      ap (acceptedCalls (ownCalls lane run)) (ap (λ (h : Hasher). responsesOf h (ownCalls lane run)) (sym (m .starts)) ∙ sym (responses-alone run bench lane there-before))
-      ∙ m .updates
-      in
-      rw (lane-alone run bench lane there-before, m .starts) (accepted-taken (ownCalls lane run) (freshOf f) t ps e)
+  taken-is = lane-taken bench run lane f t ps (record { has = there-before; starts = m .starts; updates = m .updates })
 
   -- nor is the finish
   finish-taken : finishRefusal (laneOf (runBench bench run) lane) (length out) (lend t last) ≡ Nothing
@@ -121,6 +126,13 @@ module _ (bench : List Hasher) (run : List LaneCall) (lane : ℕ) (f : Flags) (t
   lane-outcome =
       lane-finish-there (runBench bench run) lane out (lend t last) there .0
       ∙ finish-reset-outcome (laneOf (runBench bench run) lane) out (lend t last) lane-size
+      ∙ rw taken-is
+
+  -- The first mark that it hands out is that of its message by value.
+  pub lane-first : lastFirst bench run lane out t last ≡ hashed f t ps last .first
+  lane-first =
+      lane-finish-there (runBench bench run) lane out (lend t last) there .3
+      ∙ finish-reset-first (laneOf (runBench bench run) lane) out (lend t last) lane-size
       ∙ rw taken-is
 
   -- The bytes that it writes are the digest of its message by value.

@@ -1,5 +1,5 @@
 -- 10 exactly when the lane is past the end or the bench has 0 or more than 16 hashers, before all other tests; in every other case the answer,
--- the lane's hasher and the bytes written are those of the by-value call on that lane's hasher. Assumes nothing.
+-- first mark included, the lane's hasher and the bytes written are those of the by-value call on that lane's hasher. Assumes nothing.
 use mathlib.Core.Path.{_≡_, refl, sym, ap, _∙_}
 use mathlib.Core.Logic.{_↔_}
 use mathlib.Core.List.{List, [], _∷_}
@@ -14,7 +14,7 @@ use Rattle.hasher.specs.declared.Hasher.{Hasher}
 use Rattle.update.specs.Update.{updated}
 use Rattle.finish.specs.Finish.{outcomeNumber, finishedReset, writtenOut}
 use Rattle.finish.specs.declared.Outcome.the-variants.{Refused}
-use Rattle.bench.specs.Bench.{laneOf, onLane, laneUpdateRefusal, laneUpdated, laneOutcome, laneFinished, laneWritten, laneResetRefusal, laneReset}
+use Rattle.bench.specs.Bench.{laneOf, onLane, laneUpdateRefusal, laneUpdated, laneOutcome, laneFirst, laneFinished, laneWritten, laneResetRefusal, laneReset}
 use Rattle.claims.proofs.Refusals.{update-only, finish-reset-only, reset-only}
 use Rattle.bench_claims.specs.Calls.{Call, updating, finishing, resetting, responseNumber, turnedAway, responseOf, laneResponse, NoSuchLane, LaneThere}
 use Rattle.bench_claims.proofs.Lanes.{has-decides, either-lane, there-otherwise, not-both, response-there, response-away}
@@ -87,13 +87,14 @@ module _ (bench : List Hasher) (lane : ℕ) where
         → (outcomeNumber (laneOutcome bench lane out l) ≡ n) ↔ (LaneThere bench lane × (outcomeNumber (finishedReset (laneOf bench lane) (length out) l .outcome) ≡ n))
     lane-finish-line = call-line (finishing out l)
 
-    -- In every other case the outcome, the lane's hasher and the bytes left in the output are those of the finish-and-reset by value.
+    -- In every other case the outcome, the lane's hasher, the bytes left in the output and the first mark are those of the finish-and-reset by value.
     pub lane-finish-there : LaneThere bench lane
         → (laneOutcome bench lane out l ≡ finishedReset (laneOf bench lane) (length out) l .outcome)
         × (laneFinished bench lane out l ≡ set bench lane (finishedReset (laneOf bench lane) (length out) l .hasher))
         × (laneWritten bench lane out l ≡ writtenOut (laneOf bench lane) out l)
+        × (laneFirst bench lane out l ≡ finishedReset (laneOf bench lane) (length out) l .first)
     unfolding onLane
-    lane-finish-there h = let e = has-decides bench lane .on .1 h in (rw e, rw e, rw e)
+    lane-finish-there h = let e = has-decides bench lane .on .1 h in (rw e, rw e, rw e, rw e)
 
   -- A reset of a lane.
   pub lane-reset-10 : (numberOf (laneResetRefusal bench lane) ≡ 10) ↔ NoSuchLane bench lane

@@ -16,7 +16,7 @@ use denote.Triple.Clauses.{AtExit}
 use Rattle.refusal.specs.declared.Refusal.{Refusal}
 use Rattle.loan.specs.Loan.{Loan, loanOf}
 use Rattle.hasher.specs.declared.Hasher.{Hasher}
-use Rattle.finish.specs.declared.Outcome.{Outcome}
+use Rattle.bench.specs.declared.LaneAnswer.{LaneAnswer}
 use Rattle.bench.proofs.lane_update as lane-update
 use Rattle.bench.proofs.lane_finish as lane-finish
 use Rattle.bench.proofs.lane_reset as lane-reset
@@ -44,8 +44,8 @@ pub lane-update-settled : (bench : List Hasher) (lane : ℕ) (bytes : List ℕ) 
     → LaneUpdates bench lane bytes l r left → LaneUpdates bench lane bytes l s other → (r ≡ s) × (left ≡ other)
 lane-update-settled bench lane bytes l r s left other p q = (same (p .1) (q .1), same (p .0) (q .0))
 
--- A finish of a lane: its outcome, the bench that it leaves, and the bytes in the lent output.
-pub lane-finish-settled : (bench : List Hasher) (lane : ℕ) (out : List ℕ) (l : Loan) (o p : Outcome) (left other : List Hasher) (written others : List ℕ)
+-- A finish of a lane: its outcome and first mark, the bench that it leaves, and the bytes in the lent output.
+pub lane-finish-settled : (bench : List Hasher) (lane : ℕ) (out : List ℕ) (l : Loan) (o p : LaneAnswer) (left other : List Hasher) (written others : List ℕ)
     → LaneFinishes bench lane out l o left written → LaneFinishes bench lane out l p other others → (o ≡ p) × (left ≡ other) × (written ≡ others)
 lane-finish-settled bench lane out l o p left other written others x y =
     (same (x .2) (y .2), same (x .0) (y .0), same (x .1) (y .1))

@@ -13,7 +13,7 @@ use Rattle.bench_claims.proofs.OwnMessage.{lane-fresh}
 use Rattle.bench_claims.proofs.Anywhere.{message-anywhere, response-at}
 
 -- Messages one after the other on a lane that is new at first, each ended by an accepted finish, with any calls on other lanes among theirs, get the
--- outcomes and digests that they have on new hashers.
+-- outcomes, first marks and digests that they have on new hashers.
 pub lane-several-alone : (ms : List Turn) (bench : List Hasher) (lane : ℕ) (f : Flags) → laneOf bench lane ≡ freshOf f → AllAccepted bench lane ms
     → runResponses bench (turnCalls lane ms) ≡ aloneResponses bench lane f ms
 lane-several-alone [] bench lane f starts ok = refl

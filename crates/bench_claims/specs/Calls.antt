@@ -12,13 +12,15 @@ use Rattle.refusal.specs.declared.Refusal.{Refusal}
 use Rattle.refusal.specs.declared.Refusal.the-variants.{NoLane}
 use Rattle.lane.specs.Lane.{mostLanes}
 use Rattle.loan.specs.Loan.{Loan}
+use Rattle.stream.specs.Fold.{nowhere}
+use Rattle.stream.specs.declared.FirstMark.{FirstMark}
 use Rattle.hasher.specs.Hasher.{resetOf}
 use Rattle.hasher.specs.declared.Hasher.{Hasher}
 use Rattle.update.specs.Update.{updated}
 use Rattle.finish.specs.Finish.{outcomeRefusal, outcomeNumber, finishedReset, writtenOut}
 use Rattle.finish.specs.declared.Outcome.{Outcome}
 use Rattle.finish.specs.declared.Outcome.the-variants.{Refused}
-use Rattle.bench.specs.Bench.{laneOf, laneUpdateRefusal, laneUpdated, laneOutcome, laneFinished, laneWritten, laneResetRefusal, laneReset}
+use Rattle.bench.specs.Bench.{laneOf, laneUpdateRefusal, laneUpdated, laneOutcome, laneFirst, laneFinished, laneWritten, laneResetRefusal, laneReset}
 
 -- a call: an update with some bytes, a finish-and-reset into a lent output, as it is when lent, or a reset
 pub data Call : Type 0 where
@@ -26,25 +28,25 @@ pub data Call : Type 0 where
   finishing : List ℕ → Loan → Call
   resetting : Call
 
--- what a caller gets: a refusal or, from a finish, an outcome and the bytes that are left in the output
+-- what a caller gets: a refusal or, from a finish, an outcome, the first mark and the bytes that are left in the output
 pub data Response : Type 0 where
   ofRefusal : Refusal → Response
-  ofOutcome : Outcome → List ℕ → Response
+  ofOutcome : Outcome → FirstMark → List ℕ → Response
 
 -- the number of a response in the table of 01, as amended; 0 where nothing is refused
 abbrev pub responseNumber : Response → ℕ
 responseNumber (ofRefusal r) = numberOf r
-responseNumber (ofOutcome o out) = outcomeNumber o
+responseNumber (ofOutcome o first out) = outcomeNumber o
 
 -- the refusal that a response carries, Nothing where nothing is refused
 abbrev pub refusalIn : Response → Refusal
 refusalIn (ofRefusal r) = r
-refusalIn (ofOutcome o out) = outcomeRefusal o
+refusalIn (ofOutcome o first out) = outcomeRefusal o
 
--- what a refused call gets: the refusal, and the output as it was lent
+-- what a refused call gets: the refusal, zeros for a first mark, and the output as it was lent
 abbrev pub refusedWith : Refusal → Call → Response
 refusedWith r (updating bytes l) = ofRefusal r
-refusedWith r (finishing out l) = ofOutcome (Refused r) out
+refusedWith r (finishing out l) = ofOutcome (Refused r) nowhere out
 refusedWith r resetting = ofRefusal r
 
 -- what a call refused with 10 gets
@@ -54,7 +56,7 @@ turnedAway c = refusedWith NoLane c
 -- what a call on a hasher gets, by value
 abbrev pub responseOf : Hasher → Call → Response
 responseOf h (updating bytes l) = ofRefusal (updated h bytes l .refusal)
-responseOf h (finishing out l) = ofOutcome (finishedReset h (length out) l .outcome) (writtenOut h out l)
+responseOf h (finishing out l) = ofOutcome (finishedReset h (length out) l .outcome) (finishedReset h (length out) l .first) (writtenOut h out l)
 responseOf h resetting = ofRefusal (resetOf h .refusal)
 
 -- the hasher that it gives
@@ -76,7 +78,7 @@ afterCalls h (c ∷ cs) = afterCalls (afterCall h c) cs
 -- what a call on a lane of a bench gets, as the contracts of the lane calls say
 abbrev pub laneResponse : List Hasher → ℕ → Call → Response
 laneResponse bench lane (updating bytes l) = ofRefusal (laneUpdateRefusal bench lane bytes l)
-laneResponse bench lane (finishing out l) = ofOutcome (laneOutcome bench lane out l) (laneWritten bench lane out l)
+laneResponse bench lane (finishing out l) = ofOutcome (laneOutcome bench lane out l) (laneFirst bench lane out l) (laneWritten bench lane out l)
 laneResponse bench lane resetting = ofRefusal (laneResetRefusal bench lane)
 
 -- the bench that it leaves, as they say
@@ -155,7 +157,7 @@ pub record LaneThere (bench : List Hasher) (lane : ℕ) : Type 0 where
   pub usable : OneToSixteen bench
   pub inside : lane < length bench
 
--- independence of a lane in a run: its hasher at the end, and what its calls get in order, bytes written included, are those that its own
+-- independence of a lane in a run: its hasher at the end, and what its calls get in order, first marks and bytes written included, are those that its own
 -- calls alone give, by value, from its own start
 pub record GoesAlone (bench : List Hasher) (run : List LaneCall) (lane : ℕ) : Type 0 where
   pub hasher : laneOf (runBench bench run) lane ≡ afterCalls (laneOf bench lane) (ownCalls lane run)

@@ -5,17 +5,17 @@ use Prim.Native.Nat.{ℕ}
 use Rattle.refusal.specs.declared.Refusal.{Refusal}
 use Rattle.loan.specs.Loan.{Loan}
 use Rattle.hasher.specs.declared.Hasher.{Hasher}
-use Rattle.finish.specs.declared.Outcome.{Outcome}
-use Rattle.bench.specs.Bench.{laneUpdateRefusal, laneUpdated, laneOutcome, laneFinished, laneWritten, laneResetRefusal, laneReset}
+use Rattle.bench.specs.Bench.{laneUpdateRefusal, laneUpdated, laneAnswer, laneFinished, laneWritten, laneResetRefusal, laneReset}
+use Rattle.bench.specs.declared.LaneAnswer.{LaneAnswer}
 
 -- an update of a lane answers r and leaves the bench `left`
 abbrev pub LaneUpdates : List Hasher → ℕ → List ℕ → Loan → Refusal → List Hasher → Type 0
 LaneUpdates bench lane bytes l r left = (left ≡ laneUpdated bench lane bytes l) × (r ≡ laneUpdateRefusal bench lane bytes l)
 
--- a finish of a lane answers o, and leaves the bench `left` and the bytes `written` in the lent output
-abbrev pub LaneFinishes : List Hasher → ℕ → List ℕ → Loan → Outcome → List Hasher → List ℕ → Type 0
-LaneFinishes bench lane out l o left written =
-    (left ≡ laneFinished bench lane out l) × (written ≡ laneWritten bench lane out l) × (o ≡ laneOutcome bench lane out l)
+-- a finish of a lane answers a, an outcome and a first mark, and leaves the bench `left` and the bytes `written` in the lent output
+abbrev pub LaneFinishes : List Hasher → ℕ → List ℕ → Loan → LaneAnswer → List Hasher → List ℕ → Type 0
+LaneFinishes bench lane out l a left written =
+    (left ≡ laneFinished bench lane out l) × (written ≡ laneWritten bench lane out l) × (a ≡ laneAnswer bench lane out l)
 
 -- a reset of a lane answers r and leaves the bench `left`
 abbrev pub LaneResets : List Hasher → ℕ → Refusal → List Hasher → Type 0

@@ -30,12 +30,12 @@ turnCalls lane (m ∷ ms) = m .run ++ finishOf lane (m .out) (m .message .tables
 abbrev pub turnBench : List Hasher → ℕ → Turn → List Hasher
 turnBench bench lane m = laneFinished (runBench bench (m .run)) lane (m .out) (lend (m .message .tables) (m .message .last))
 
--- what all calls get, where each finish gets the outcome and the digest that its message has on a new hasher
+-- what all calls get, where each finish gets the outcome, the first mark and the digest that its message has on a new hasher
 abbrev pub aloneResponses : List Hasher → ℕ → Flags → List Turn → List Response
 aloneResponses bench lane f [] = []
 aloneResponses bench lane f (m ∷ ms) =
     let d = alone f (m .message) in
-    runResponses bench (m .run) ++ ofOutcome (d .outcome) (d .digest) ∷ aloneResponses (turnBench bench lane m) lane f ms
+    runResponses bench (m .run) ++ ofOutcome (d .outcome) (d .first) (d .digest) ∷ aloneResponses (turnBench bench lane m) lane f ms
 
 -- in each turn the lane accepts updates with the message's tables, one for each of its pieces, no other call, and the finish
 abbrev pub AllAccepted : List Hasher → ℕ → List Turn → Type 0

@@ -23,6 +23,7 @@ lineHasher line =
       blocks = numberAt line 4;
       flags = flagsOfBits (numberAt line 2);
       mark = eqb (numberAt line 5) 1;
+      first = record { block = numberAt line 8; place = numberAt line 9 };
     }
 
 -- the row with such a hasher, where its words are five and its pending bytes can be read

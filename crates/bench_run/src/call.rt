@@ -17,6 +17,7 @@ use cases::number_at;
 use cases::records_of;
 use printing::say;
 use printing::say_accepted;
+use printing::say_first;
 use printing::say_out;
 use replay_line::bytes_front;
 use replay_line::hex_words;
@@ -45,14 +46,17 @@ fn told(row: Row, name: &[u8], line: &[u8], b: Benched) -> Row
     }
 }
 
-// The same of a finish.
+// The same of a finish, with the first mark that it hands out.
 fn told_end(row: Row, line: &[u8], f: BenchFinished, out: &[u8; 24]) -> Row
     ensures { λ r. ⌜ r ≡ rowOf (row .count) (f .bench) ⌝ }
 {
     let outcome = f.outcome;
+    let first = f.first;
     let hashers = f.bench;
     say_call(b"finish ", line);
     say_out(outcome, out);
+    say(b", ");
+    say_first(first);
     say(b"\n");
     Row {
         count: row.count,

@@ -15,6 +15,7 @@ use replay_line::bytes_front;
 use replay_line::five_at;
 use replay_line::run_at;
 use replay_line::word_count;
+use stream::FirstMark;
 
 // A new hasher, with the flags of field 2.
 pub(crate) fn seat_new(row: Row, line: &[u8]) -> Row
@@ -52,6 +53,10 @@ fn line_hasher(line: &[u8]) -> Hasher
         blocks: number_at(line, 4) as u64,
         flags: flags_of_bits(number_at(line, 2)),
         mark: number_at(line, 5) == 1,
+        first: FirstMark {
+            block: number_at(line, 8) as u64,
+            place: number_at(line, 9),
+        },
     }
 }
 

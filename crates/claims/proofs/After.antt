@@ -1,6 +1,6 @@
 -- What a hasher has after an update that is not refused. Assumes nothing.
 use mathlib.Core.Path.{_≡_, _∙_}
-use mathlib.Core.Bool.{_||_}
+use mathlib.Core.Bool.{true, _||_}
 use mathlib.Core.List.{List}
 use Prim.Native.Nat.{ℕ}
 use Rattle.refusal.proofs.Passed.{of-refusal}
@@ -16,7 +16,7 @@ use Rattle.update.proofs.Taken.{Taken, refusal-is, update-taken}
 use Rattle.update.proofs.Absorbed.{words-after, pending-after}
 use Rattle.claims.specs.Sound.{Sized}
 use Rattle.claims.specs.Marked.{wholeBlocks, wordsAt, markedIn}
-use Rattle.claims.proofs.Blocks.{chained-words, chained-mark}
+use Rattle.claims.proofs.Blocks.{chained-words, chained-mark, first-kept}
 use Rattle.claims.proofs.Below.{anyBelow}
 
 module _ (f : Flags) (l : Loan) (c : Chain) (xs : List ℕ) where
@@ -27,6 +27,10 @@ module _ (f : Flags) (l : Loan) (c : Chain) (xs : List ℕ) where
   -- the mark after a call: what it was, or with detection on that of one of the call's blocks
   pub mark-then : folded f l c xs .mark ≡ (c .mark || anyBelow (markedIn f l (c .words) xs) (wholeBlocks xs))
   mark-then = rw (folded-is f l c xs) (chained-mark f (l .tables) (wholeBlocks xs) c xs (lookedAt f (l .masks)))
+
+  -- the numbers of a mark that was there: they stay
+  pub fold-kept : c .mark ≡ true → folded f l c xs .first ≡ c .first
+  fold-kept e = rw (folded-is f l c xs) (first-kept f (l .tables) c xs (lookedAt f (l .masks)) e (wholeBlocks xs))
 
 pub sized-after : (h : Hasher) (bytes : List ℕ) (l : Loan) → Sized (absorbed h bytes l)
 sized-after h bytes l = record { words-size = words-after h bytes l; pending-size = pending-after h bytes l }

@@ -148,12 +148,12 @@ module _ (h : Hasher) (l : Loan) (pass : ConditionsPass (conditionsOn h .flags) 
 
     -- So does a finish, with those of the last blocks.
     pub finish-surviving : finished (conditionsOn h) l
-        ≡ record { outcome = finished (masksOn h) (survivingLast h l) .outcome; digest = finished (masksOn h) (survivingLast h l) .digest; hasher = conditionsOn h }
+        ≡ record { outcome = finished (masksOn h) (survivingLast h l) .outcome; digest = finished (masksOn h) (survivingLast h l) .digest; first = finished (masksOn h) (survivingLast h l) .first; hasher = conditionsOn h }
     finish-surviving = finish-alike Conditions Lent l (survivingLast h l) h last-alike
 
     -- So does a finish-and-reset, with the bytes that it leaves in the lent output.
     pub finish-reset-surviving : (size : ℕ) → finishedReset (conditionsOn h) size l
-        ≡ record { outcome = finishedReset (masksOn h) size (survivingLast h l) .outcome; hasher = conditionsOn (finishedReset (masksOn h) size (survivingLast h l) .hasher) }
+        ≡ record { outcome = finishedReset (masksOn h) size (survivingLast h l) .outcome; first = finishedReset (masksOn h) size (survivingLast h l) .first; hasher = conditionsOn (finishedReset (masksOn h) size (survivingLast h l) .hasher) }
     finish-reset-surviving = finish-reset-alike Conditions Lent l (survivingLast h l) h last-alike
 
     pub output-surviving : (out : List ℕ) → writtenOut (conditionsOn h) out l ≡ writtenOut (masksOn h) out (survivingLast h l)
@@ -189,13 +189,14 @@ module _ (f : Flags) (t : Tables) (ps qs : List Piece) (last rest : List ℕ) (o
 
   module _ (taken-too : NoneRefused (withMasks f Lent) t qs rest) where
     answers : _≡_ {A = Digested}
-        (record { outcome = hashed (withMasks f Conditions) t ps last .outcome; digest = hashed (withMasks f Conditions) t ps last .digest })
-        (record { outcome = hashed (withMasks f Lent) t qs rest .outcome; digest = hashed (withMasks f Lent) t qs rest .digest })
+        (record { outcome = hashed (withMasks f Conditions) t ps last .outcome; digest = hashed (withMasks f Conditions) t ps last .digest; first = hashed (withMasks f Conditions) t ps last .first })
+        (record { outcome = hashed (withMasks f Lent) t qs rest .outcome; digest = hashed (withMasks f Lent) t qs rest .digest; first = hashed (withMasks f Lent) t qs rest .first })
     answers =
         sym (whole-agrees (withMasks f Conditions) t ps last ok) ∙ whole-surviving f (bytesOf ps) (loanOfAll t ps last) passes
         ∙ (rw (same, lent) at (whole-agrees (withMasks f Lent) t qs rest taken-too))
 
-    -- Then the outcome and the digest are the same.
+    -- Then the outcome, the digest and the first mark are the same.
     pub message-surviving : (hashed (withMasks f Conditions) t ps last .outcome ≡ hashed (withMasks f Lent) t qs rest .outcome)
         × (hashed (withMasks f Conditions) t ps last .digest ≡ hashed (withMasks f Lent) t qs rest .digest)
-    message-surviving = (ap (λ (d : Digested). d .outcome) answers, ap (λ (d : Digested). d .digest) answers)
+        × (hashed (withMasks f Conditions) t ps last .first ≡ hashed (withMasks f Lent) t qs rest .first)
+    message-surviving = (ap (λ (d : Digested). d .outcome) answers, ap (λ (d : Digested). d .digest) answers, ap (λ (d : Digested). d .first) answers)

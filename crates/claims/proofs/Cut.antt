@@ -53,7 +53,8 @@ module _ (h : Hasher) (size : Sized h) (t : Tables) where
 pub cut-alike : (f : Flags) (t : Tables) (ps qs : List Piece) (last rest : List ℕ) → NoneRefused f t ps last → NoneRefused f t qs rest
     → bytesOf ps ≡ bytesOf qs → blockMasks f ps last ≡ blockMasks f qs rest
     → (hashed f t ps last .outcome ≡ hashed f t qs rest .outcome) × (hashed f t ps last .digest ≡ hashed f t qs rest .digest)
+    × (hashed f t ps last .first ≡ hashed f t qs rest .first)
 cut-alike f t ps qs last rest x y e m =
     let xs = padded (bytesOf qs) in
     let verdict : List ℕ → Verdict = λ ms. verdictOf (anyBelow (atBlock (markedBy f t) (againBy f t) initial xs ms) (wholeBlocks xs)) (f .mitigate) in
-    rw (hashed-is f t ps last x, hashed-is f t qs rest y, e) (ap (λ (ms : List ℕ). Done (verdict ms)) m, rw m)
+    rw (hashed-is f t ps last x, hashed-is f t qs rest y, e) (ap (λ (ms : List ℕ). Done (verdict ms)) m, rw m, rw m)

@@ -108,7 +108,7 @@ module _ (h : Regs) (block table : List ℕ) (hw : Words h) (bytes : AllBytes bl
     start-own = (λ e. subst (Reaches h block table i) e start-reaches, λ r. sym (start-only h hw r))
 
     -- record i marks the block exactly when it does one of these, the second in reduced-round mode only
-    marks-exactly : (reduced : Bool) → (marks reduced h (scheduleOf (wordsOf block)) table i ≡ true) ↔ MeetsIn reduced h block table i
+    pub marks-exactly : (reduced : Bool) → (marks reduced h (scheduleOf (wordsOf block)) table i ≡ true) ↔ MeetsIn reduced h block table i
     unfolding marks compressOf
     marks-exactly reduced =
         let ends = siblingEnds h (scheduleOf (wordsOf block)) table i in

@@ -1,7 +1,7 @@
 -- Demand 3 for every call, in any mode: what marks an update, and by what a finish, a finish-and-reset and a whole message give their verdict. Assumes nothing.
 use mathlib.Core.Path.{_≡_, refl, sym, ap, _∙_, subst}
 use mathlib.Core.Logic.{_↔_, Iff·rfl, Iff·trans, Iff·and}
-use mathlib.Core.Bool.{Bool, true, true≢false}
+use mathlib.Core.Bool.{Bool, true, false, true≢false}
 use mathlib.Core.List.{List}
 use Prim.Native.Nat.{ℕ, _%_}
 use native.Mathlib.Omega.{arith}
@@ -51,11 +51,15 @@ use Rattle.claims.proofs.MetAlong.{some-met, folded-met}
 same-mark : {a b : Bool} {P : Type 0} → a ≡ b → (b ≡ true) ↔ P → (a ≡ true) ↔ P
 same-mark e k = (λ p. k .0 (sym e ∙ p), λ p. e ∙ k .1 p)
 
+-- a mark that is there exactly when P holds is not there exactly when P does not
+pub no-mark : (m : Bool) {P : Type 0} → (m ≡ true) ↔ P → (m ≡ false) ↔ (P → ⊥)
+no-mark m e = (λ z p. true≢false (sym (e .1 p) ∙ z), λ n. unless-true m (λ k. n (e .0 k)))
+
 -- the verdict on a mark that is there exactly when P holds
 verdict-by : (m mitigate : Bool) (P : Type 0) → (m ≡ true) ↔ P → VerdictBy (Done (verdictOf m mitigate)) mitigate P
 verdict-by m mitigate P e =
     record {
-      ok = Iff·trans (is-ok m mitigate) (λ z p. true≢false (sym (e .1 p) ∙ z), λ n. unless-true m (λ k. n (e .0 k)));
+      ok = Iff·trans (is-ok m mitigate) (no-mark m e);
       mitigated = Iff·trans (is-mitigated m mitigate) (Iff·and e Iff·rfl);
       collision = Iff·trans (is-collision m mitigate) (Iff·and e Iff·rfl);
     }

@@ -18,6 +18,11 @@ module _ (h : Hasher) (out : List ℕ) (l : Loan) (size : length out ≡ digestS
   unfolding finishedReset finished
   finish-reset-outcome = rw size
 
+  -- So is the first mark that it hands out.
+  pub finish-reset-first : finishedReset h (length out) l .first ≡ finished h l .first
+  unfolding finishedReset finished
+  finish-reset-first = rw size
+
   -- Where it is not refused, the bytes written are the finish's digest.
   pub finish-reset-writes : finishRefusal h digestSize l ≡ Nothing → writtenOut h out l ≡ finished h l .digest
   unfolding writtenOut finished

@@ -4,6 +4,8 @@ pub mod Demand3
 pub mod OneBlock
 pub mod EveryCall
 pub mod Selected
+pub mod First
+pub mod FirstUnmarked
 pub mod Siblings
 pub mod Control
 pub mod Abc
@@ -38,3 +40,5 @@ pub mod Piecewise
 pub mod Whole
 pub mod Along
 pub mod MetAlong
+pub mod Least
+pub mod FirstAlong

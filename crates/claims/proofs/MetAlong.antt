@@ -52,14 +52,18 @@ module _ (f : Flags) (l : Loan) (h : Regs) (xs : List ℕ) (hw : Words h) (bytes
         some-below (markedIn f l h xs) (wholeBlocks xs) .1 (w .0, w .1, marked-in-at (k .0) (looked-good f l fine (k .0)) (w .0) .1 (w .2)),
   )
 
--- the mark after the blocks of a call: it was there or, with detection on, one of them is met
-pub folded-met : (f : Flags) (l : Loan) (c : Chain) (xs : List ℕ) → Words (c .words) → AllBytes xs → TypedVectors (l .tables)
-    → tablesRefusal f (l .tables) ≡ Nothing
-    → (folded f l c xs .mark ≡ true) ↔ ((c .mark ≡ true) ⊎ ((f .detect ≡ true) × OneMetIn f l (c .words) xs))
-folded-met f l c xs hw bytes words fine =
-    let s = some-met f l (c .words) xs hw bytes words fine in
+-- the mark after the blocks of a call, where P says whether one of them is marked: it was there, or one is
+pub folded-by : (f : Flags) (l : Loan) (c : Chain) (xs : List ℕ) {P : Type 0} → (anyBelow (markedIn f l (c .words) xs) (wholeBlocks xs) ≡ true) ↔ P
+    → (folded f l c xs .mark ≡ true) ↔ ((c .mark ≡ true) ⊎ P)
+folded-by f l c xs s =
     let m = mark-then f l c xs in
     let any = anyBelow (markedIn f l (c .words) xs) (wholeBlocks xs) in (
       λ e. ⊎-elim inl (λ k. inr (s .0 k)) (one-true (c .mark) any (sym m ∙ e)),
       λ k. m ∙ ⊎-elim (λ (e : c .mark ≡ true). rw e) (λ p. rw (s .1 p) (or-true (c .mark))) k,
     )
+
+-- it was there or, with detection on, one of them is met
+pub folded-met : (f : Flags) (l : Loan) (c : Chain) (xs : List ℕ) → Words (c .words) → AllBytes xs → TypedVectors (l .tables)
+    → tablesRefusal f (l .tables) ≡ Nothing
+    → (folded f l c xs .mark ≡ true) ↔ ((c .mark ≡ true) ⊎ ((f .detect ≡ true) × OneMetIn f l (c .words) xs))
+folded-met f l c xs hw bytes words fine = folded-by f l c xs (some-met f l (c .words) xs hw bytes words fine)

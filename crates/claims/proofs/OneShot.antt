@@ -41,9 +41,9 @@ module _ (f : Flags) (t : Tables) (ps : List Piece) (last : List ℕ) where
             });
       })
 
-  -- It has their outcome and digest then.
+  -- It has their outcome, digest and first mark then.
   pub whole-agrees : NoneRefused f t ps last
-      → wholeOf f (bytesOf ps) (loanOfAll t ps last) ≡ record { outcome = hashed f t ps last .outcome; digest = hashed f t ps last .digest }
+      → wholeOf f (bytesOf ps) (loanOfAll t ps last) ≡ record { outcome = hashed f t ps last .outcome; digest = hashed f t ps last .digest; first = hashed f t ps last .first }
   unfolding wholeOf
   whole-agrees ok = rw (whole-taken ok, hashed-by f t ps last ok)
 
@@ -53,10 +53,10 @@ module _ (f : Flags) (t : Tables) (ps : List Piece) (last : List ℕ) where
       let w = refusal-whole f (length (bytesOf ps)) (loanOfAll t ps last) e in
       none-refused f t ps last (w .short) (loan-accepted f (loanOfAll t ps last) (blocksOf (length (bytesOf ps))) (w .loan) .good) turn
 
--- So one call, not refused, has the outcome and digest of one update, with the masks of the whole blocks, and a finish, with the rest.
+-- So one call, not refused, has the outcome, digest and first mark of one update, with the masks of the whole blocks, and a finish, with the rest.
 pub whole-two : (f : Flags) (t : Tables) (bytes first last : List ℕ) → (usesMasks f ≡ true → length first ≡ length bytes / 64)
     → wholeRefusal f (length bytes) (lend t (first ++ last)) ≡ Nothing
-    → wholeOf f bytes (lend t (first ++ last)) ≡ record { outcome = inTwo f t bytes first last .outcome; digest = inTwo f t bytes first last .digest }
+    → wholeOf f bytes (lend t (first ++ last)) ≡ record { outcome = inTwo f t bytes first last .outcome; digest = inTwo f t bytes first last .digest; first = inTwo f t bytes first last .first }
 whole-two f t bytes first last m e =
     let p : Piece = record { bytes = bytes; masks = first } in
     let b = append-nil bytes in
@@ -78,18 +78,18 @@ whole-two f t bytes first last m e =
     rw u at (rw (b, c) at (whole-agrees f t (p ∷ []) last ok))
 
 module _ (t : Tables) (ps : List Piece) (last : List ℕ) where
-  -- Where neither an update nor the finish is refused, the one-shot form has their outcome and digest.
+  -- Where neither an update nor the finish is refused, the one-shot form has their outcome, digest and first mark.
   pub one-shot-agrees : NoneRefused defaults t ps last
-      → digested (bytesOf ps) (loanOfAll t ps last) ≡ record { outcome = hashed defaults t ps last .outcome; digest = hashed defaults t ps last .digest }
+      → digested (bytesOf ps) (loanOfAll t ps last) ≡ record { outcome = hashed defaults t ps last .outcome; digest = hashed defaults t ps last .digest; first = hashed defaults t ps last .first }
   one-shot-agrees ok = whole-agrees defaults t ps last ok
 
   -- What the one-shot form takes, the updates and the finish take, with each block's mask in its turn.
   pub one-shot-cut : InTurn ps last → wholeRefusal defaults (length (bytesOf ps)) (loanOfAll t ps last) ≡ Nothing → NoneRefused defaults t ps last
   one-shot-cut turn e = whole-cut defaults t ps last (λ u. turn) e
 
--- So the one-shot form, not refused, has the outcome and digest of one update, with the masks of the whole blocks, and a finish, with the rest.
+-- So the one-shot form, not refused, has the outcome, digest and first mark of one update, with the masks of the whole blocks, and a finish, with the rest.
 pub one-shot-two : (t : Tables) (bytes first last : List ℕ) → length first ≡ length bytes / 64
     → wholeRefusal defaults (length bytes) (lend t (first ++ last)) ≡ Nothing
     → digested bytes (lend t (first ++ last))
-    ≡ record { outcome = inTwo defaults t bytes first last .outcome; digest = inTwo defaults t bytes first last .digest }
+    ≡ record { outcome = inTwo defaults t bytes first last .outcome; digest = inTwo defaults t bytes first last .digest; first = inTwo defaults t bytes first last .first }
 one-shot-two t bytes first last m e = whole-two defaults t bytes first last (λ u. m) e

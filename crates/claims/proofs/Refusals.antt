@@ -37,6 +37,7 @@ use Rattle.flags.specs.Flags.{usesConditions, defaults}
 use Rattle.flags.specs.declared.Flags.{Flags}
 use Rattle.loan.specs.Loan.{Tables, Loan, loanRefusal, loanNumbers, WellCounted, Miscounted, ConditionsPass, ConditionsGive, VectorsGive, GoodLoan}
 use Rattle.loan.proofs.Loans.{loan-0, loan-6, loan-conditions, loan-table, loan-gives, loan-gives-conditions, loan-only, one-setting}
+use Rattle.stream.specs.Fold.{nowhere}
 use Rattle.hasher.specs.Hasher.{wellFormed, taken, freshOf, resetOf}
 use Rattle.hasher.specs.declared.Hasher.{Hasher}
 use Rattle.hasher.specs.declared.Updated.{Updated}
@@ -297,7 +298,7 @@ module _ (h : Hasher) (l : Loan) where
 
   -- a refusal gives no verdict and zeros, and the hasher as it was
   pub finish-refused : (outcomeNumber (finished h l .outcome) ≡ 0 → ⊥)
-      → finished h l ≡ record { outcome = Refused (finishRefusal h digestSize l); digest = replicate digestSize 0; hasher = h }
+      → finished h l ≡ record { outcome = Refused (finishRefusal h digestSize l); digest = replicate digestSize 0; first = nowhere; hasher = h }
   unfolding finished
   finish-refused n = rw (ne-eqb (numberOf (finishRefusal h digestSize l)) 0 (λ e. n (ap numberOf finish-is ∙ e)))
 
@@ -358,7 +359,7 @@ module _ (h : Hasher) (size : ℕ) (l : Loan) where
 
 -- a refused finish-and-reset gives no verdict, the hasher as it was, and writes nothing
 pub finish-reset-refused : (h : Hasher) (out : List ℕ) (l : Loan) → (outcomeNumber (finishedReset h (length out) l .outcome) ≡ 0 → ⊥)
-    → (finishedReset h (length out) l ≡ record { outcome = Refused (finishRefusal h (length out) l); hasher = h })
+    → (finishedReset h (length out) l ≡ record { outcome = Refused (finishRefusal h (length out) l); first = nowhere; hasher = h })
     × (writtenOut h out l ≡ out)
 unfolding finishedReset writtenOut
 finish-reset-refused h out l n =
@@ -417,7 +418,7 @@ module _ (f : Flags) (bytes : List ℕ) (l : Loan) where
 
   -- a refusal gives no verdict and zeros
   pub whole-refused : (outcomeNumber (wholeOf f bytes l .outcome) ≡ 0 → ⊥)
-      → wholeOf f bytes l ≡ record { outcome = Refused (wholeRefusal f (length bytes) l); digest = replicate digestSize 0 }
+      → wholeOf f bytes l ≡ record { outcome = Refused (wholeRefusal f (length bytes) l); digest = replicate digestSize 0; first = nowhere }
   unfolding wholeOf
   whole-refused n = rw (ne-eqb (numberOf (wholeRefusal f (length bytes) l)) 0 (λ e. n (ap numberOf whole-is ∙ e)))
 
@@ -468,5 +469,5 @@ module _ (bytes : List ℕ) (l : Loan) where
 
   -- a refusal gives no verdict and zeros
   pub shot-refused : (outcomeNumber (digested bytes l .outcome) ≡ 0 → ⊥)
-      → digested bytes l ≡ record { outcome = Refused (wholeRefusal defaults (length bytes) l); digest = replicate digestSize 0 }
+      → digested bytes l ≡ record { outcome = Refused (wholeRefusal defaults (length bytes) l); digest = replicate digestSize 0; first = nowhere }
   shot-refused = whole-refused defaults bytes l

@@ -139,7 +139,7 @@ marked-by f l h xs hw bytes vectors conditions on good i =
     Iff·trans (marked-in-at f l h xs hw bytes vectors on good i) (met-by f l xs i conditions good h)
 
 -- so it is for one block of a stream, where the tables pass
-one-met-by : (f : Flags) (l : Loan) (h : Regs) (xs : List ℕ) → TypedConditions (l .tables) → tablesRefusal f (l .tables) ≡ Nothing
+pub one-met-by : (f : Flags) (l : Loan) (h : Regs) (xs : List ℕ) → TypedConditions (l .tables) → tablesRefusal f (l .tables) ≡ Nothing
     → ((f .detect ≡ true) × OneMetIn f l h xs) ↔ ((f .detect ≡ true) × OneMetBy f l h xs)
 one-met-by f l h xs conditions fine = (
   λ k. let w = k .1 in (k .0, (w .0, w .1, met-by f l xs (w .0) conditions (looked-good f l fine (k .0)) h .0 (w .2))),

@@ -60,12 +60,12 @@ module _ (a b : Masks) (l k : Loan) where
     last-alike = e .folds
 
     pub finish-alike : finished (setMasks h a) l
-        ≡ record { outcome = finished (setMasks h b) k .outcome; digest = finished (setMasks h b) k .digest; hasher = setMasks h a }
+        ≡ record { outcome = finished (setMasks h b) k .outcome; digest = finished (setMasks h b) k .digest; first = finished (setMasks h b) k .first; hasher = setMasks h a }
     unfolding finished
     finish-alike = rw (finish-refusal digestSize, last-alike)
 
     pub finish-reset-alike : (size : ℕ) → finishedReset (setMasks h a) size l
-        ≡ record { outcome = finishedReset (setMasks h b) size k .outcome; hasher = setMasks (finishedReset (setMasks h b) size k .hasher) a }
+        ≡ record { outcome = finishedReset (setMasks h b) size k .outcome; first = finishedReset (setMasks h b) size k .first; hasher = setMasks (finishedReset (setMasks h b) size k .hasher) a }
     unfolding finishedReset
     finish-reset-alike size =
         let p = isNothing (finishRefusal (setMasks h b) size k) in

@@ -22,7 +22,7 @@ use Rattle.claims.specs.Pieces.{Piece, piecewise, taking, hashedOn, hash
 use Rattle.claims.specs.Several.{LentMessage, alone, eachAlone, AllTaken, oneAfterOther, RunInPlace}
 use Rattle.claims.proofs.Kept.{pieces-flags}
 use Rattle.claims.proofs.Piecewise.{updatedBy, piecewise-nil, piecewise-cons}
-use Rattle.claims.proofs.FinishReset.{finish-reset-outcome, finish-reset-writes}
+use Rattle.claims.proofs.FinishReset.{finish-reset-outcome, finish-reset-first, finish-reset-writes}
 
 -- what a reset and a finish-and-reset leave, not refused
 pub reset-fresh : (h : Hasher) → resetOf h .refusal ≡ Nothing → resetOf h .hasher ≡ freshOf (h .flags)
@@ -36,7 +36,7 @@ unfolding finishedReset
 finish-reset-fresh h size l e = rw e
 
 module _ (h : Hasher) (t : Tables) (ps : List Piece) (last : List ℕ) where
-  -- After a reset that is not refused the next message's outcome and digest are those of a new hasher with the same flags, refused or not.
+  -- After a reset that is not refused the next message's outcome, digest and first mark are those of a new hasher with the same flags, refused or not.
   pub next-after-reset : resetOf h .refusal ≡ Nothing → hashedOn (resetOf h .hasher) t ps last ≡ hashed (h .flags) t ps last
   next-after-reset e = ap (λ (g : Hasher). hashedOn g t ps last) (reset-fresh h e)
 
@@ -45,7 +45,7 @@ module _ (h : Hasher) (t : Tables) (ps : List Piece) (last : List ℕ) where
       → hashedOn (finishedReset h size l .hasher) t ps last ≡ hashed (h .flags) t ps last
   next-after-finish-reset size l e = ap (λ (g : Hasher). hashedOn g t ps last) (finish-reset-fresh h size l e)
 
--- Messages one after the other on one hasher, each ended by a finish-and-reset, have the outcomes and digests that they have on new hashers.
+-- Messages one after the other on one hasher, each ended by a finish-and-reset, have the outcomes, digests and first marks that they have on new hashers.
 pub several-alone : (ms : List LentMessage) (f : Flags) → AllTaken f ms → oneAfterOther (freshOf f) ms ≡ eachAlone f ms
 unfolding oneAfterOther
 several-alone [] f ok = refl
@@ -55,11 +55,12 @@ several-alone (m ∷ ms) f ok =
     let zeros : List ℕ = replicate digestSize 0 in
     let out : finishedReset g digestSize l .outcome ≡ finished g l .outcome = finish-reset-outcome g zeros l refl in
     let wrote : writtenOut g zeros l ≡ finished g l .digest = finish-reset-writes g zeros l refl (ok .0 .finish) in
+    let told : finishedReset g digestSize l .first ≡ finished g l .first = finish-reset-first g zeros l refl in
     let fresh : finishedReset g digestSize l .hasher ≡ freshOf f =
     finish-reset-fresh g digestSize l (ok .0 .finish) ∙ ap freshOf (pieces-flags (freshOf f) (m .tables) (m .pieces))
     in
-    let here : Digested = record { outcome = finishedReset g digestSize l .outcome; digest = writtenOut g zeros l } in
-    let same : here ≡ alone f m = rw (out, wrote) in
+    let here : Digested = record { outcome = finishedReset g digestSize l .outcome; digest = writtenOut g zeros l; first = finishedReset g digestSize l .first } in
+    let same : here ≡ alone f m = rw (out, wrote, told) in
     ap₂ (λ (x : Digested) (xs : List Digested). x ∷ xs) same (ap (λ (k : Hasher). oneAfterOther k ms) fresh ∙ several-alone ms f (ok .1))
 
 -- A run of updates in place leaves the refusal and the hasher of the run by value.

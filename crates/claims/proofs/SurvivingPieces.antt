@@ -67,6 +67,7 @@ module _ (t : Tables) where
         ≡ record {
           outcome = finished after (survivingLast after (lend t last)) .outcome;
           digest = finished after (survivingLast after (lend t last)) .digest;
+          first = finished after (survivingLast after (lend t last)) .first;
           hasher = conditionsOn after;
         }
     hashed-surviving =
@@ -75,4 +76,4 @@ module _ (t : Tables) where
         let own : masksOn after ≡ after = set-own after Lent (ap (λ (g : Flags). g .masks) flags) in
         ap (λ (u : Updated). finished (u .hasher) (lend t last)) (pieces-surviving ps (freshOf f) pass)
         ∙ finish-surviving after (lend t last) (rw flags pass) (sound .size .pending-size)
-        ∙ ap (λ (g : Hasher). record { outcome = finished g (survivingLast after (lend t last)) .outcome; digest = finished g (survivingLast after (lend t last)) .digest; hasher = conditionsOn after }) own
+        ∙ ap (λ (g : Hasher). record { outcome = finished g (survivingLast after (lend t last)) .outcome; digest = finished g (survivingLast after (lend t last)) .digest; first = finished g (survivingLast after (lend t last)) .first; hasher = conditionsOn after }) own

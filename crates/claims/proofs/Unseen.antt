@@ -142,11 +142,11 @@ module _ (h : Hasher) (l : Loan) where
   last-bits = bits-alike l (h .flags) (tailBlocks (h .fill)) (chainOf h) (tailOf (h .pending) (h .fill) (taken h))
 
   pub finish-every-bit : finished (masksOff h) l
-      ≡ record { outcome = finished (masksOn h) (everyLast h l) .outcome; digest = finished (masksOn h) (everyLast h l) .digest; hasher = masksOff h }
+      ≡ record { outcome = finished (masksOn h) (everyLast h l) .outcome; digest = finished (masksOn h) (everyLast h l) .digest; first = finished (masksOn h) (everyLast h l) .first; hasher = masksOff h }
   finish-every-bit = finish-alike All Lent l (everyLast h l) h last-bits
 
   pub finish-reset-every-bit : (size : ℕ) → finishedReset (masksOff h) size l
-      ≡ record { outcome = finishedReset (masksOn h) size (everyLast h l) .outcome; hasher = masksOff (finishedReset (masksOn h) size (everyLast h l) .hasher) }
+      ≡ record { outcome = finishedReset (masksOn h) size (everyLast h l) .outcome; first = finishedReset (masksOn h) size (everyLast h l) .first; hasher = masksOff (finishedReset (masksOn h) size (everyLast h l) .hasher) }
   finish-reset-every-bit = finish-reset-alike All Lent l (everyLast h l) h last-bits
 
   pub output-every-bit : (out : List ℕ) → writtenOut (masksOff h) out l ≡ writtenOut (masksOn h) out (everyLast h l)

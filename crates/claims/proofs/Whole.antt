@@ -12,7 +12,8 @@ use Rattle.fips.specs.Tail.{tailBlocks}
 use Rattle.flags.specs.Flags.{usesMasks}
 use Rattle.flags.specs.declared.Flags.{Flags}
 use Rattle.loan.specs.Loan.{Tables, lend}
-use Rattle.stream.specs.Fold.{firstChain}
+use Rattle.stream.specs.Fold.{firstChain, blockOf, chained}
+use Rattle.stream.proofs.Folded.{folded-is}
 use Rattle.loan.proofs.Loans.{AcceptedLoan, loan-accepted}
 use Rattle.hasher.specs.Hasher.{freshOf}
 use Rattle.absorb.specs.Absorb.{absorbed}
@@ -68,6 +69,7 @@ module _ (f : Flags) (t : Tables) where
         ≡ record {
           outcome = Done (verdictOf (wholeChain f (bytesOf ps) (loanOfAll t ps last) .mark) (f .mitigate));
           digest = digestOf (wholeChain f (bytesOf ps) (loanOfAll t ps last) .words);
+          first = wholeChain f (bytesOf ps) (loanOfAll t ps last) .first;
           hasher = taking f t ps .hasher;
         }
     unfolding finished
@@ -78,10 +80,11 @@ module _ (f : Flags) (t : Tables) where
         ≡ record {
           outcome = Done (verdictOf (anyBelow (markedAt f (loanOfAll t ps last) (bytesOf ps)) (blocksIn (bytesOf ps))) (f .mitigate));
           digest = sha1Marked (againBy f t) (bytesOf ps) (blockMasks f ps last);
+          first = chained (blockOf f t) (blocksIn (bytesOf ps)) firstChain (padded (bytesOf ps)) (blockMasks f ps last) .first;
           hasher = taking f t ps .hasher;
         }
     unfolding wholeChain
     hashed-is =
         let xs = padded (bytesOf ps) in
         let l = loanOfAll t ps last in
-        hashed-by ∙ rw (mark-then f l firstChain xs, words-then f l firstChain xs)
+        hashed-by ∙ rw (mark-then f l firstChain xs, words-then f l firstChain xs, folded-is f l firstChain xs)

@@ -6,6 +6,7 @@ pub mod Refusals
 pub mod Settings
 pub mod Message
 pub mod Selected
+pub mod First
 pub mod EveryCall
 pub mod Several
 pub mod Control

@@ -21,6 +21,10 @@ selectedBy f t block mask = selectionOf (conditionsFor f (t .conditions)) block 
 abbrev pub markedBy : Flags → Tables → Regs → List ℕ → ℕ → Bool
 markedBy f t h block mask = f .detect && answerOf (modeOf f) (t .vectors) h block (selectedBy f t block mask) .found .mark
 
+-- the place of the record that marks it, where one does
+abbrev pub placeBy : Flags → Tables → Regs → List ℕ → ℕ → ℕ
+placeBy f t h block mask = answerOf (modeOf f) (t .vectors) h block (selectedBy f t block mask) .found .place
+
 -- whether it is compressed twice more: it is marked, and mitigation is on
 abbrev pub againBy : Flags → Tables → Regs → List ℕ → ℕ → Bool
 againBy f t h block mask = markedBy f t h block mask && f .mitigate
@@ -59,6 +63,10 @@ wordsAt f l h xs i = hashMarked (againBy f (l .tables)) i h xs (lookedAt f (l .m
 -- whether block i of the stream is marked
 abbrev pub markedIn : Flags → Loan → Regs → List ℕ → ℕ → Bool
 markedIn f l h xs i = markedBy f (l .tables) (wordsAt f l h xs i) (blockAt xs i) (maskFor (lookedAt f (l .masks)) i)
+
+-- the place of the record that marks block i of the stream, where one does
+abbrev pub placeIn : Flags → Loan → Regs → List ℕ → ℕ → ℕ
+placeIn f l h xs i = placeBy f (l .tables) (wordsAt f l h xs i) (blockAt xs i) (maskFor (lookedAt f (l .masks)) i)
 
 -- the blocks of a message, padding included
 abbrev pub blocksIn : List ℕ → ℕ

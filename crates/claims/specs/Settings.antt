@@ -21,7 +21,7 @@ use Rattle.claims.specs.Marked.{blocksIn}
 -- the hasher with another masks setting, and all else as it was
 abbrev pub setMasks : Hasher → Masks → Hasher
 setMasks h masks =
-    record { words = h .words; pending = h .pending; fill = h .fill; blocks = h .blocks; flags = withMasks (h .flags) masks; mark = h .mark }
+    record { words = h .words; pending = h .pending; fill = h .fill; blocks = h .blocks; flags = withMasks (h .flags) masks; mark = h .mark; first = h .first }
 
 -- every vector for every block
 abbrev pub masksOff : Hasher → Hasher

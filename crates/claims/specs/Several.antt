@@ -20,13 +20,13 @@ pub record LentMessage : Type 0 where
   pub pieces : List Piece
   pub last : List ℕ
 
--- its outcome and digest on a new hasher
+-- its outcome, digest and first mark on a new hasher
 abbrev pub alone : Flags → LentMessage → Digested
 alone f m =
     let r = hashed f (m .tables) (m .pieces) (m .last) in
-    record { outcome = r .outcome; digest = r .digest }
+    record { outcome = r .outcome; digest = r .digest; first = r .first }
 
--- the outcome and digest of each on new hashers
+-- those of each on new hashers
 abbrev pub eachAlone : Flags → List LentMessage → List Digested
 eachAlone f [] = []
 eachAlone f (m ∷ ms) = alone f m ∷ eachAlone f ms
@@ -36,13 +36,13 @@ abbrev pub AllTaken : Flags → List LentMessage → Type 0
 AllTaken f [] = Unit
 AllTaken f (m ∷ ms) = NoneRefused f (m .tables) (m .pieces) (m .last) × AllTaken f ms
 
--- the outcome and digest of each on one hasher: its updates, and a finish-and-reset into 20 bytes
+-- those of each on one hasher: its updates, and a finish-and-reset into 20 bytes
 unfoldable pub oneAfterOther : Hasher → List LentMessage → List Digested
 oneAfterOther h [] = []
 oneAfterOther h (m ∷ ms) =
     let g = piecewise h (m .tables) (m .pieces) .hasher in
     let l = lend (m .tables) (m .last) in
-    record { outcome = finishedReset g digestSize l .outcome; digest = writtenOut g (replicate digestSize 0) l }
+    record { outcome = finishedReset g digestSize l .outcome; digest = writtenOut g (replicate digestSize 0) l; first = finishedReset g digestSize l .first }
     ∷ oneAfterOther (finishedReset g digestSize l .hasher) ms
 
 -- an update in place with a piece and, where it is not refused, the rest of the run, which leaves the refusal r and the hasher g

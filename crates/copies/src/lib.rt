@@ -43,7 +43,7 @@ pub fn put_two(out: &mut [u64], a: u64, b: u64)
     out[1] = b;
 }
 
-// Four numbers into an answer or a state.
+// Four numbers into an answer.
 pub fn put_four(out: &mut [u64], a: u64, b: u64, c: u64, d: u64)
     requires { ⌜ length (now out) ≡ 4 ⌝ }
     ensures { λ r. ⌜ now (out .exit) ≡ (a ∷ b ∷ c ∷ d ∷ []) ⌝ }
@@ -52,6 +52,19 @@ pub fn put_four(out: &mut [u64], a: u64, b: u64, c: u64, d: u64)
     out[1] = b;
     out[2] = c;
     out[3] = d;
+}
+
+// Six numbers into a state.
+pub fn put_six(out: &mut [u64], a: u64, b: u64, c: u64, d: u64, e: u64, f: u64)
+    requires { ⌜ length (now out) ≡ 6 ⌝ }
+    ensures { λ r. ⌜ now (out .exit) ≡ (a ∷ b ∷ c ∷ d ∷ e ∷ f ∷ []) ⌝ }
+{
+    out[0] = a;
+    out[1] = b;
+    out[2] = c;
+    out[3] = d;
+    out[4] = e;
+    out[5] = f;
 }
 
 // The five words of a slice.

@@ -5,6 +5,7 @@ use flags::Flags;
 use hasher::Hasher;
 use printing::say;
 use printing::say_answer;
+use printing::say_first;
 use printing::say_refusal;
 use refusal::is_nothing;
 use update::update;
@@ -25,6 +26,9 @@ fn main() {
     let f = finish(second.hasher, &table, none, none);
     let outcome = f.outcome;
     let digest = f.digest;
+    let first_mark = f.first;
     say_answer(outcome, &digest);
+    say(b", ");
+    say_first(first_mark);
     say(b"\n");
 }

@@ -12,7 +12,8 @@ use Rattle.verdict.specs.Verdict.{digestSize, verdictOf}
 use Rattle.fips.specs.Fips.{digestOf}
 use Rattle.fips.specs.Tail.{tailBlocks, tailOf}
 use Rattle.loan.specs.Loan.{Loan, loanRefusal}
-use Rattle.stream.specs.Fold.{folded}
+use Rattle.stream.specs.Fold.{nowhere, folded}
+use Rattle.stream.specs.declared.FirstMark.{FirstMark}
 use Rattle.stream.specs.declared.Chain.{Chain}
 use Rattle.hasher.specs.Hasher.{wellFormed, taken, chainOf, freshOf}
 use Rattle.hasher.specs.declared.Hasher.{Hasher}
@@ -53,19 +54,23 @@ outcomePlace o = placeOf (outcomeRefusal o)
 abbrev pub digestOr : Refusal → Chain → List ℕ → List ℕ
 digestOr r c other = pick (isNothing r) (digestOf (c .words)) other
 
+-- the first mark of a chain, or zeros on a refusal
+abbrev pub firstOr : Refusal → Chain → FirstMark
+firstOr r c = pick (isNothing r) (c .first) nowhere
+
 -- what a finish gives: the hasher comes back as it was
 unfoldable pub finished : Hasher → Loan → Finished
 finished h l =
     let r = finishRefusal h digestSize l in
     let c = lastChain h l in
-    record { outcome = outcomeOf r c (h .flags .mitigate); digest = digestOr r c (replicate digestSize 0); hasher = h }
+    record { outcome = outcomeOf r c (h .flags .mitigate); digest = digestOr r c (replicate digestSize 0); first = firstOr r c; hasher = h }
 
 -- what a finish-and-reset gives: the reset hasher, or on a refusal the hasher as it was
 unfoldable pub finishedReset : Hasher → ℕ → Loan → FinishedReset
 finishedReset h size l =
     let r = finishRefusal h size l in
     let c = lastChain h l in
-    record { outcome = outcomeOf r c (h .flags .mitigate); hasher = pick (isNothing r) (freshOf (h .flags)) h }
+    record { outcome = outcomeOf r c (h .flags .mitigate); first = firstOr r c; hasher = pick (isNothing r) (freshOf (h .flags)) h }
 
 -- what it leaves in the lent output: the digest, or on a refusal what was there
 unfoldable pub writtenOut : Hasher → List ℕ → Loan → List ℕ

@@ -16,6 +16,7 @@ use octets::store;
 use refusal::Refusal;
 use refusal::is_nothing;
 use stream::Chain;
+use stream::FirstMark;
 use stream::fold_blocks;
 use verdict::DIGEST_SIZE;
 use verdict::Verdict;
@@ -31,12 +32,15 @@ pub enum Outcome {
 pub struct Finished {
     pub outcome: Outcome,
     pub digest: [u8; DIGEST_SIZE],
+    // The first marked block, padding counted, and the place of the vector that marked it; zeros where none was.
+    pub first: FirstMark,
     pub hasher: Hasher,
 }
 
 // What a finish-and-reset gives beside the bytes that it writes.
 pub struct FinishedReset {
     pub outcome: Outcome,
+    pub first: FirstMark,
     pub hasher: Hasher,
 }
 
@@ -81,16 +85,19 @@ pub fn finish(h: Hasher, table: &[u32], conditions: &[u32], masks: &[u32]) -> Fi
     let r = finish_refusal(h, DIGEST_SIZE, table, conditions, masks);
     if is_nothing(r) {
         let c = last_chain(h, table, conditions, masks);
+        let first = c.first;
         let flags = h.flags;
         return Finished {
             outcome: Outcome::Done(verdict_of(c.mark, flags.mitigate)),
             digest: digest(c.words),
+            first,
             hasher: h,
         };
     }
     Finished {
         outcome: Outcome::Refused(r),
         digest: [0u8; 20],
+        first: FirstMark { block: 0, place: 0 }, // no verdict, no numbers
         hasher: h,
     }
 }
@@ -108,16 +115,19 @@ pub fn finish_and_reset(
     let r = finish_refusal(h, out.len(), table, conditions, masks);
     if is_nothing(r) {
         let c = last_chain(h, table, conditions, masks);
+        let told = c.first;
         let flags = h.flags;
         let d = digest(c.words);
         store(out, 0, &d, DIGEST_SIZE);
         return FinishedReset {
             outcome: Outcome::Done(verdict_of(c.mark, flags.mitigate)),
+            first: told,
             hasher: Hasher::new(flags),
         };
     }
     FinishedReset {
         outcome: Outcome::Refused(r),
+        first: FirstMark { block: 0, place: 0 },
         hasher: h,
     }
 }

@@ -8,7 +8,7 @@ use Rattle.word.specs.Choice.{pick}
 use Rattle.step.specs.Step.{regsOf, fiveOf}
 use Rattle.refusal.specs.declared.Refusal.the-variants.{Nothing, HasherForm}
 use Rattle.flags.specs.declared.Flags.{Flags}
-use Rattle.stream.specs.Fold.{firstChain}
+use Rattle.stream.specs.Fold.{firstChain, markFits}
 use Rattle.stream.specs.declared.Chain.{Chain}
 use Rattle.hasher.specs.declared.Hasher.{Hasher}
 use Rattle.hasher.specs.declared.Updated.{Updated}
@@ -22,21 +22,21 @@ unfoldable pub allZero : List ℕ → Bool
 allZero [] = true
 allZero (x ∷ xs) = eqb x 0 && allZero xs
 
--- fill and block count in range, zeros behind the pending bytes, and no mark with detection off
+-- fill and block count in range, zeros behind the pending bytes, and a mark that fits where it was first made
 unfoldable pub wellFormed : Hasher → Bool
 wellFormed h =
     leb (h .fill) 63
     && (leb (h .blocks) mostBlocks
     && (allZero (drop (h .fill) (h .pending))
-    && pick (h .mark) (h .flags .detect) true))
+    && markFits (h .flags .detect) (h .mark) (h .first) (h .blocks)))
 
 -- the bytes taken so far
 abbrev pub taken : Hasher → ℕ
 taken h = h .blocks * 64 + h .fill
 
--- the chaining words, the mark and the block count of a hasher
+-- the chaining words, the mark, where it was made and the block count of a hasher
 abbrev pub chainOf : Hasher → Chain
-chainOf h = record { words = regsOf (h .words); mark = h .mark; blocks = h .blocks }
+chainOf h = record { words = regsOf (h .words); mark = h .mark; first = h .first; blocks = h .blocks }
 
 -- fewer than 64 bytes, filled up with zeros
 abbrev pub zeroed : List ℕ → List ℕ
@@ -45,7 +45,7 @@ zeroed xs = xs ++ replicate (64 - length xs) 0
 -- a hasher that has come to a chain, with 64 bytes of which the first are pending
 abbrev pub hasherWith : Flags → Chain → List ℕ → ℕ → Hasher
 hasherWith f c pending fill =
-    record { words = fiveOf (c .words); pending = pending; fill = fill; blocks = c .blocks; flags = f; mark = c .mark }
+    record { words = fiveOf (c .words); pending = pending; fill = fill; blocks = c .blocks; flags = f; mark = c .mark; first = c .first }
 
 -- a hasher that has come to a chain, with the bytes that are left after its blocks
 abbrev pub hasherAt : Flags → Chain → List ℕ → Hasher

@@ -2,12 +2,15 @@
 ghost use mathlib.Core.Path.{_≡_};
 ghost use Prim.Native.Nat.{_≤_};
 ghost use lib.ListN.{drop};
+ghost use Rattle.stream.specs.Fold.{markFits};
 ghost use Rattle.hasher.specs.Hasher.{allZero, wellFormed, chainOf, hasherWith, freshOf, resetOf};
 use flags::Flags;
 use refusal::Refusal;
 use step::five_of;
 use step::regs_of;
 use stream::Chain;
+use stream::FirstMark;
+use table::MOST_RECORDS;
 
 // The largest block count.
 pub const MOST_BLOCKS: u64 = 0x7FFFFFFFFFFFFF;
@@ -20,6 +23,8 @@ pub struct Hasher {
     pub blocks: u64,
     pub flags: Flags,
     pub mark: bool,
+    // Where the mark was first made; zeros without one.
+    pub first: FirstMark,
 }
 
 // A refusal or none, and the hasher: changed only where nothing is refused.
@@ -40,6 +45,7 @@ impl Hasher {
             blocks: 0,
             flags,
             mark: false,
+            first: FirstMark { block: 0, place: 0 },
         }
     }
 
@@ -48,6 +54,7 @@ impl Hasher {
         ensures { λ r. ⌜ r ≡ hasherWith flags c pending fill ⌝ }
     {
         let words = five_of(c.words);
+        let first = c.first;
         Hasher {
             words,
             pending,
@@ -55,6 +62,7 @@ impl Hasher {
             blocks: c.blocks,
             flags,
             mark: c.mark,
+            first,
         }
     }
 
@@ -63,9 +71,11 @@ impl Hasher {
         ensures { λ r. ⌜ r ≡ chainOf self ⌝ }
     {
         let words = self.words;
+        let first = self.first;
         Chain {
             words: regs_of(words),
             mark: self.mark,
+            first,
             blocks: self.blocks,
         }
     }
@@ -84,6 +94,25 @@ fn zero_from(p: [u8; 64], from: usize) -> bool
     true
 }
 
+// Whether a mark fits where it was first made, as far as a hasher shows it.
+fn mark_fits(detect: bool, mark: bool, first: FirstMark, blocks: u64) -> bool
+    ensures { λ r. ⌜ r ≡ markFits detect mark first blocks ⌝ }
+{
+    if mark {
+        if !detect {
+            return false;
+        }
+        if blocks <= first.block {
+            return false;
+        }
+        return first.place < MOST_RECORDS;
+    }
+    if first.block != 0 {
+        return false;
+    }
+    first.place == 0
+}
+
 // Whether a hasher is well formed. No call makes one that is not.
 pub fn well_formed(h: Hasher) -> bool
     ensures { λ r. ⌜ r ≡ wellFormed h ⌝ }
@@ -100,10 +129,8 @@ pub fn well_formed(h: Hasher) -> bool
     if !zero_from(pending, fill) {
         return false;
     }
-    if h.mark {
-        return flags.detect;
-    }
-    true
+    let first = h.first;
+    mark_fits(flags.detect, h.mark, first, h.blocks)
 }
 
 // Everything but the flags as at the start.

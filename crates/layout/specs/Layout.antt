@@ -11,6 +11,7 @@ use Rattle.flags.specs.Flags.{conditionsOf}
 use Rattle.flags.specs.declared.Flags.{Flags}
 use Rattle.flags.specs.declared.Masks.{Masks}
 use Rattle.flags.specs.declared.Masks.the-variants.{All, Lent, Conditions}
+use Rattle.stream.specs.declared.FirstMark.{FirstMark}
 use Rattle.hasher.specs.declared.Hasher.{Hasher}
 
 -- a truth value as a number
@@ -43,22 +44,27 @@ masksWorth Conditions = 16
 unfoldable pub flagsNumber : Flags → ℕ
 flagsNumber f = bitOf (f .detect) + 2 * bitOf (f .mitigate) + masksWorth (f .masks) + 8 * bitOf (f .reduced)
 
--- the hasher that lies in its words, its pending bytes and its state: fill, blocks, mark, flags
+-- the first mark in a state
+abbrev pub firstIn : List ℕ → FirstMark
+firstIn state = record { block = getD state 4 0; place = getD state 5 0 }
+
+-- the hasher that lies in its words, its pending bytes and its state: fill, blocks, mark, flags, the first mark's block and place
 unfoldable pub hasherIn : List ℕ → List ℕ → List ℕ → Hasher
 hasherIn words pending state =
-    record { words = words; pending = pending; fill = getD state 0 0; blocks = getD state 1 0; flags = flagsIn (getD state 3 0); mark = hasWorth (getD state 2 0) 1 }
+    record { words = words; pending = pending; fill = getD state 0 0; blocks = getD state 1 0; flags = flagsIn (getD state 3 0); mark = hasWorth (getD state 2 0) 1; first = firstIn state }
 
 -- the state of a hasher, as it is written
 unfoldable pub stateOf : Hasher → List ℕ
-stateOf h = h .fill ∷ h .blocks ∷ bitOf (h .mark) ∷ flagsNumber (h .flags) ∷ []
+stateOf h = h .fill ∷ h .blocks ∷ bitOf (h .mark) ∷ flagsNumber (h .flags) ∷ h .first .block ∷ h .first .place ∷ []
 
 -- the three slices that a hasher lies in
 abbrev pub slicesOf : Hasher → List (List ℕ)
 slicesOf h = h .words ∷ h .pending ∷ stateOf h ∷ []
 
--- whether a state is one that a hasher is written as: four numbers, the mark 0 or 1, and flags
+-- whether a state is one that a hasher is written as: six numbers, the mark 0 or 1, and flags. Any first mark is one: where it does not
+-- fit the mark and the blocks, the hasher is not well formed
 abbrev pub stateFits : List ℕ → Bool
-stateFits state = eqb (length state) 4 && (leb (getD state 2 0) 1 && flagsKnown (getD state 3 0))
+stateFits state = eqb (length state) 6 && (leb (getD state 2 0) 1 && flagsKnown (getD state 3 0))
 
 -- whether a hasher lies in slices of so many words and pending bytes, and such a state
 abbrev pub hasherFits : ℕ → ℕ → List ℕ → Bool
@@ -66,7 +72,7 @@ hasherFits words pending state = eqb words 5 && (eqb pending 64 && stateFits sta
 
 -- whether a new hasher fits slices of so many words, pending bytes and numbers, and there are such flags
 abbrev pub newFits : ℕ → ℕ → ℕ → ℕ → Bool
-newFits words pending state flags = eqb words 5 && (eqb pending 64 && (eqb state 4 && flagsKnown flags))
+newFits words pending state flags = eqb words 5 && (eqb pending 64 && (eqb state 6 && flagsKnown flags))
 
 -- a verdict as a number; 0 is left for none
 abbrev pub verdictNumber : Verdict → ℕ

@@ -8,13 +8,14 @@ ghost use lib.ListN.{length};
 ghost use Rattle.verdict.specs.Verdict.{digestSize};
 ghost use Rattle.layout.specs.Layout.{bitOf, hasWorth, flagsKnown, masksIn, flagsIn, masksWorth, flagsNumber, hasherIn, stateOf, stateFits, hasherFits, newFits, verdictNumber, verdictKnown, verdictFor};
 use copies::pending_in;
-use copies::put_four;
 use copies::put_pending;
+use copies::put_six;
 use copies::put_words;
 use copies::words_in;
 use flags::Flags;
 use flags::Masks;
 use hasher::Hasher;
+use stream::FirstMark;
 use verdict::DIGEST_SIZE;
 use verdict::Verdict;
 
@@ -97,7 +98,7 @@ pub fn flags_number(f: Flags) -> u64
 pub fn state_fits(state: &[u64]) -> bool
     ensures { λ r. ⌜ r ≡ stateFits (now (state .entry)) ⌝ }
 {
-    if state.len() != 4 {
+    if state.len() != 6 {
         return false;
     }
     if state[2] > 1 {
@@ -132,20 +133,20 @@ pub fn new_fits(words: usize, pending: usize, state: usize, flags: u64) -> bool
     if pending != 64 {
         return false;
     }
-    if state != 4 {
+    if state != 6 {
         return false;
     }
     flags_known(flags)
 }
 
-// Whether a digest and an answer have their fixed lengths.
-pub fn digest_fits(digest: usize, answer: usize) -> bool
-    ensures { λ r. ⌜ r ≡ (eqb digest digestSize && eqb answer 2) ⌝ }
+// Whether a digest has its fixed length, and an answer so many numbers.
+pub fn digest_fits(digest: usize, answer: usize, numbers: usize) -> bool
+    ensures { λ r. ⌜ r ≡ (eqb digest digestSize && eqb answer numbers) ⌝ }
 {
     if digest != DIGEST_SIZE {
         return false;
     }
-    answer == 2
+    answer == numbers
 }
 
 // Whether a number stands for a verdict, and the rest of what a call asks holds.
@@ -176,12 +177,16 @@ pub fn block_fits(words: usize, after: usize, answer: usize) -> bool
 
 // The hasher that lies in three lent slices.
 pub fn hasher_in(words: &[u32], pending: &[u8], state: &[u64]) -> Hasher
-    requires { ⌜ (length (now words) ≡ 5) × (length (now pending) ≡ 64) × (length (now state) ≡ 4) ⌝ }
+    requires { ⌜ (length (now words) ≡ 5) × (length (now pending) ≡ 64) × (length (now state) ≡ 6) ⌝ }
     ensures { λ r. ⌜ r ≡ hasherIn (now (words .entry)) (now (pending .entry)) (now (state .entry)) ⌝ }
 {
     let w = words_in(words);
     let p = pending_in(pending);
     let flags = flags_in(state[3]);
+    let first = FirstMark {
+        block: state[4],
+        place: state[5] as usize,
+    };
     Hasher {
         words: w,
         pending: p,
@@ -189,26 +194,30 @@ pub fn hasher_in(words: &[u32], pending: &[u8], state: &[u64]) -> Hasher
         blocks: state[1],
         flags,
         mark: has_worth(state[2], 1),
+        first,
     }
 }
 
 // A hasher laid into three lent slices.
 pub fn put_hasher(words: &mut [u32], pending: &mut [u8], state: &mut [u64], h: Hasher)
-    requires { ⌜ (length (now words) ≡ 5) × (length (now pending) ≡ 64) × (length (now state) ≡ 4) ⌝ }
+    requires { ⌜ (length (now words) ≡ 5) × (length (now pending) ≡ 64) × (length (now state) ≡ 6) ⌝ }
     ensures { λ r. ⌜ (now (words .exit) ≡ h .words) × (now (pending .exit) ≡ h .pending) × (now (state .exit) ≡ stateOf h) ⌝ }
 {
     let w = h.words;
     let p = h.pending;
     let flags = h.flags;
     let fill = h.fill;
+    let first = h.first;
     put_words(words, w);
     put_pending(pending, p);
-    put_four(
+    put_six(
         state,
         fill as u64,
         h.blocks,
         bit_of(h.mark),
         flags_number(flags),
+        first.block,
+        first.place as u64,
     );
 }
 

@@ -8,6 +8,7 @@ use borrow.Author.Tests.{ne-eqb}
 use Rattle.refusal.specs.Refusal.{numberOf, placeOf, isNothing}
 use Rattle.refusal.specs.declared.Refusal.{Refusal}
 use Rattle.detect.specs.declared.OneBlock.{OneBlock}
+use Rattle.stream.specs.declared.FirstMark.{FirstMark}
 use Rattle.finish.specs.Finish.{outcomeRefusal}
 use Rattle.finish.specs.declared.Outcome.{Outcome}
 use Rattle.layout.specs.Layout.{bitOf}
@@ -32,5 +33,6 @@ block-keeps o before n =
     ((bitOf (o .found .mark) ∷ o .found .place ∷ o .found .tried ∷ placeOf (o .refusal) ∷ []) ∷ [], rw (some-refusal (o .refusal) n))
 
 -- what a digest's call leaves on a refusal has the bytes that were there
-pub digest-keeps : (o : Outcome) (digest before : List ℕ) → 0 < digestLeft o digest before .number → Keeps (before ∷ []) (digestLeft o digest before)
-digest-keeps o digest before n = (outcomeAnswer o ∷ [], rw (some-refusal (outcomeRefusal o) n))
+pub digest-keeps : (o : Outcome) (f : FirstMark) (digest before : List ℕ) → 0 < digestLeft o f digest before .number
+    → Keeps (before ∷ []) (digestLeft o f digest before)
+digest-keeps o f digest before n = (outcomeAnswer o f ∷ [], rw (some-refusal (outcomeRefusal o) n))

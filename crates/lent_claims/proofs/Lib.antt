@@ -4,3 +4,4 @@ pub mod HasherKept
 pub mod FinishKept
 pub mod TableKept
 pub mod Finished
+pub mod FirstMarks

@@ -1,5 +1,6 @@
 -- A hasher that is read from lent memory of the right form is written back as it lay there; flags written as a number are read as these
--- flags; a new hasher has the flags that were asked for; and a verdict's number is read as that verdict. Assumes nothing.
+-- flags, and a hasher that is written is read as that hasher; a new hasher has the flags that were asked for; and a verdict's number is read as
+-- that verdict. Assumes nothing.
 use mathlib.Core.Path.{_≡_, refl, sym, ap, _∙_}
 use mathlib.Core.Bool.{Bool, true, false, not, _&&_, true≢false}
 use mathlib.Core.Logic.{⊎-elim}
@@ -18,6 +19,7 @@ use Rattle.flags.specs.declared.Flags.{Flags}
 use Rattle.flags.specs.declared.Masks.{Masks}
 use Rattle.flags.specs.declared.Masks.the-variants.{All, Lent, Conditions}
 use Rattle.hasher.specs.Hasher.{freshOf}
+use Rattle.hasher.specs.declared.Hasher.{Hasher}
 use Rattle.layout.specs.Layout.{bitOf, hasWorth, flagsKnown, flagsIn, flagsNumber, hasherIn, stateOf, slicesOf, stateFits, hasherFits, verdictNumber, verdictKnown, verdictFor}
 
 -- every number below n comes back from f
@@ -75,8 +77,21 @@ each-kept false false false = by-setting false false false (refl, refl) (refl, r
 pub flags-kept : (f : Flags) → (flagsKnown (flagsNumber f) ≡ true) × (flagsIn (flagsNumber f) ≡ f)
 flags-kept f = each-kept (f .detect) (f .mitigate) (f .reduced) (f .masks)
 
--- a new hasher's state: nothing pending, no blocks, no mark, and the flags that were asked for
-pub new-state : (x : ℕ) → flagsKnown x ≡ true → stateOf (freshOf (flagsIn x)) ≡ 0 ∷ 0 ∷ 0 ∷ x ∷ []
+-- a mark written as a number is 0 or 1, and is read as that mark
+mark-kept : (b : Bool) → (leb (bitOf b) 1 ≡ true) × (hasWorth (bitOf b) 1 ≡ b)
+mark-kept true = (refl, refl)
+mark-kept false = (refl, refl)
+
+-- a hasher that a call leaves is taken by the next call, and is read as it was, its first mark too
+pub hasher-kept : (h : Hasher) → (stateFits (stateOf h) ≡ true) × (hasherIn (h .words) (h .pending) (stateOf h) ≡ h)
+unfolding stateOf hasherIn
+hasher-kept h =
+    let m = mark-kept (h .mark) in
+    let f = flags-kept (h .flags) in
+    (rw (m .0, f .0), rw (m .1, f .1))
+
+-- a new hasher's state: nothing pending, no blocks, no mark, the flags that were asked for, and no first mark
+pub new-state : (x : ℕ) → flagsKnown x ≡ true → stateOf (freshOf (flagsIn x)) ≡ 0 ∷ 0 ∷ 0 ∷ x ∷ 0 ∷ 0 ∷ []
 unfolding stateOf
 new-state x k = rw (flags-back x k)
 
@@ -87,15 +102,18 @@ mark-back = back (λ (x : ℕ). bitOf (hasWorth x 1)) 2 refl
 -- a state that fits is the state of the hasher that it is read as
 state-back : (w p s : List ℕ) → stateFits s ≡ true → stateOf (hasherIn w p s) ≡ s
 unfolding stateOf hasherIn
-state-back w p (a ∷ b ∷ c ∷ d ∷ []) e =
+state-back w p (a ∷ b ∷ c ∷ d ∷ x ∷ y ∷ []) e =
     let f = both-true (leb c 1) (flagsKnown d) e in
     rw (mark-back c (omega (arith, leb-true c 1 (f .0))), flags-back d (f .1))
 state-back w p [] e = absurd (true≢false (sym e))
 state-back w p (a ∷ []) e = absurd (true≢false (sym e))
 state-back w p (a ∷ b ∷ []) e = absurd (true≢false (sym e))
 state-back w p (a ∷ b ∷ c ∷ []) e = absurd (true≢false (sym e))
-state-back w p (a ∷ b ∷ c ∷ d ∷ x ∷ s) e =
-    let k = eqb-true (length (a ∷ b ∷ c ∷ d ∷ x ∷ s)) 4 (both-true (eqb (length (a ∷ b ∷ c ∷ d ∷ x ∷ s)) 4) (leb c 1 && flagsKnown d) e .0) in
+state-back w p (a ∷ b ∷ c ∷ d ∷ []) e = absurd (true≢false (sym e))
+state-back w p (a ∷ b ∷ c ∷ d ∷ x ∷ []) e = absurd (true≢false (sym e))
+state-back w p (a ∷ b ∷ c ∷ d ∷ x ∷ y ∷ z ∷ s) e =
+    let n = length (a ∷ b ∷ c ∷ d ∷ x ∷ y ∷ z ∷ s) in
+    let k = eqb-true n 6 (both-true (eqb n 6) (leb c 1 && flagsKnown d) e .0) in
     absurd (omega (arith, k))
 
 -- so the slices that a hasher is read from are those that it is written to

@@ -29,5 +29,5 @@ pub one-shot-keeps : (bytes digest : List ℕ) (l : Loan) (answer : List ℕ)
 unfolding oneShotCall
 one-shot-keeps bytes digest l answer =
     let d = digested bytes l in
-    guarded-keeps (eqb (length digest) digestSize && eqb (length answer) 2) (digestLeft (d .outcome) (d .digest) digest) (digest ∷ []) (answer ∷ [])
-    (λ e. digest-keeps (d .outcome) (d .digest) digest)
+    guarded-keeps (eqb (length digest) digestSize && eqb (length answer) 4) (digestLeft (d .outcome) (d .first) (d .digest) digest) (digest ∷ []) (answer ∷ [])
+    (λ e. digest-keeps (d .outcome) (d .first) (d .digest) digest)

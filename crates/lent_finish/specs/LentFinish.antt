@@ -9,18 +9,19 @@ use Rattle.finish.specs.Finish.{finishedReset, writtenOut}
 use Rattle.layout.specs.Layout.{hasherIn, hasherFits}
 use Rattle.answers.specs.Answers.{Left, guarded, outcomeLeft, finishResetLeft}
 
--- the call of a finish, which only reads the hasher: outcome and output are those of a finish-and-reset
+-- the call of a finish, which only reads the hasher: outcome, first mark and output are those of a finish-and-reset
 unfoldable pub finishCall : List ℕ → List ℕ → List ℕ → List ℕ → Loan → List ℕ → Left
 finishCall words pending state digest l answer =
     let h = hasherIn words pending state in
-    guarded (hasherFits (length words) (length pending) state && eqb (length answer) 2)
-    (outcomeLeft (finishedReset h (length digest) l .outcome) (writtenOut h digest l))
+    let c = finishedReset h (length digest) l in
+    guarded (hasherFits (length words) (length pending) state && eqb (length answer) 4)
+    (outcomeLeft (c .outcome) (c .first) (writtenOut h digest l))
     (digest ∷ answer ∷ [])
 
 -- the call of a finish-and-reset
 unfoldable pub finishResetCall : List ℕ → List ℕ → List ℕ → List ℕ → Loan → List ℕ → Left
 finishResetCall words pending state out l answer =
     let h = hasherIn words pending state in
-    guarded (hasherFits (length words) (length pending) state && eqb (length answer) 2)
+    guarded (hasherFits (length words) (length pending) state && eqb (length answer) 4)
     (finishResetLeft (finishedReset h (length out) l) (writtenOut h out l))
     (words ∷ pending ∷ state ∷ out ∷ answer ∷ [])

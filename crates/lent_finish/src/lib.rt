@@ -25,14 +25,15 @@ pub fn finish_lent(
 ) -> u32
     ensures { λ r. ⌜ left r (now (digest .exit) ∷ now (answer .exit) ∷ []) ≡ finishCall (now (words .entry)) (now (pending .entry)) (now (state .entry)) (now (digest .entry)) (loanOf (now (table .entry)) (now (conditions .entry)) (now (masks .entry))) (now (answer .entry)) ⌝ }
 {
-    let fits = hasher_fits(words.len(), pending.len(), state, answer.len() == 2);
+    let fits = hasher_fits(words.len(), pending.len(), state, answer.len() == 4);
     if !fits {
         return BROKEN_AGREEMENT;
     }
     let h = hasher_in(words, pending, state);
     let c = finish_and_reset(h, digest, table, conditions, masks);
     let o = c.outcome;
-    put_outcome(answer, o)
+    let first = c.first;
+    put_outcome(answer, o, first)
 }
 
 // The digest written to the output, and the hasher back at the start of a message with its flags.
@@ -48,7 +49,7 @@ pub fn finish_and_reset_lent(
 ) -> u32
     ensures { λ r. ⌜ left r (now (words .exit) ∷ now (pending .exit) ∷ now (state .exit) ∷ now (out .exit) ∷ now (answer .exit) ∷ []) ≡ finishResetCall (now (words .entry)) (now (pending .entry)) (now (state .entry)) (now (out .entry)) (loanOf (now (table .entry)) (now (conditions .entry)) (now (masks .entry))) (now (answer .entry)) ⌝ }
 {
-    if !hasher_fits(words.len(), pending.len(), state, answer.len() == 2) {
+    if !hasher_fits(words.len(), pending.len(), state, answer.len() == 4) {
         return BROKEN_AGREEMENT;
     }
     let h = hasher_in(words, pending, state);

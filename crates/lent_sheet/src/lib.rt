@@ -76,7 +76,7 @@ pub fn compare_lent(
 ) -> u32
     ensures { λ r. ⌜ left r (now (answer .exit) ∷ []) ≡ compareCall (now (sheet .entry)) (now (code .entry)) verdict (now (digest .entry)) (now (answer .entry)) ⌝ }
 {
-    if !verdict_fits(verdict, digest_fits(digest.len(), answer.len())) {
+    if !verdict_fits(verdict, digest_fits(digest.len(), answer.len(), 2)) {
         return BROKEN_AGREEMENT;
     }
     let c = compare(sheet, code, verdict_for(verdict), digest_in(digest));

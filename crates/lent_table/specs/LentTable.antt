@@ -25,7 +25,7 @@ blockCall words block table mask mode after answer =
 unfoldable pub oneShotCall : List ℕ → List ℕ → Loan → List ℕ → Left
 oneShotCall bytes digest l answer =
     let d = digested bytes l in
-    guarded (eqb (length digest) digestSize && eqb (length answer) 2) (digestLeft (d .outcome) (d .digest) digest) (digest ∷ answer ∷ [])
+    guarded (eqb (length digest) digestSize && eqb (length answer) 4) (digestLeft (d .outcome) (d .first) (d .digest) digest) (digest ∷ answer ∷ [])
 
 -- the call of a check that says what is wrong
 unfoldable pub faultCall : Refusal → List ℕ → Left

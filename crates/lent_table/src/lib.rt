@@ -55,13 +55,14 @@ pub fn one_shot_lent(
 ) -> u32
     ensures { λ r. ⌜ left r (now (digest .exit) ∷ now (answer .exit) ∷ []) ≡ oneShotCall (now (bytes .entry)) (now (digest .entry)) (loanOf (now (table .entry)) [] (now (masks .entry))) (now (answer .entry)) ⌝ }
 {
-    if !digest_fits(digest.len(), answer.len()) {
+    if !digest_fits(digest.len(), answer.len(), 4) {
         return BROKEN_AGREEMENT;
     }
     let s = one_shot(bytes, table, masks);
     let d = s.digest;
     let o = s.outcome;
-    leave_digest(digest, answer, d, o)
+    let first = s.first;
+    leave_digest(digest, answer, d, o, first)
 }
 
 // What is wrong with what is lent, said in an answer.

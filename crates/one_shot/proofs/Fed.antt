@@ -1,5 +1,5 @@
 -- A whole message that is not refused: what is known of it, and of the hasher that has taken it. Assumes nothing.
-use mathlib.Core.Path.{_≡_, refl}
+use mathlib.Core.Path.{_≡_}
 use mathlib.Core.Bool.{true}
 use mathlib.Core.List.{List}
 use Prim.Native.Nat.{ℕ, _/_, _≤_}
@@ -12,8 +12,10 @@ use Rattle.refusal.proofs.Passed.{passed}
 use Rattle.fips.specs.Fips.{mostBytes}
 use Rattle.flags.specs.declared.Flags.{Flags}
 use Rattle.conditions.specs.Good.{GoodConditions}
-use Rattle.loan.specs.Loan.{Loan, conditionsFor, later, loanRefusal}
+use Rattle.loan.specs.Loan.{Loan, VectorsPass, conditionsFor, later, loanRefusal}
+use Rattle.loan.proofs.Loans.{loan-accepted, tables-good}
 use Rattle.stream.specs.Fold.{firstChain, folded}
+use Rattle.stream.proofs.MarkRight.{none-fits}
 use Rattle.stream.proofs.Folded.{folded-mark, folded-blocks}
 use Rattle.hasher.specs.Hasher.{wellFormed, freshOf}
 use Rattle.hasher.proofs.Formed.{at-formed}
@@ -38,17 +40,21 @@ module _ (f : Flags) (n : ℕ) (l : Loan) where
   unfolding wholeRefusal
   whole-refusal w = rw (le-ltb _ _ (w .short)) (w .loan)
 
+-- the vectors that are looked at are good then
+pub whole-vectors : (f : Flags) (n : ℕ) (l : Loan) → Whole f n l → VectorsPass f (l .tables .vectors)
+whole-vectors f n l w = tables-good f (l .tables) (loan-accepted f l (blocksOf n) (w .loan) .good) .1
+
 -- a new hasher can take a message that is short enough
 pub whole-ready : (f : Flags) (bytes conditions : List ℕ) → length bytes ≤ mostBytes → GoodConditions (conditionsFor f conditions) → Ready (freshOf f) bytes conditions
 whole-ready f bytes conditions s g = record { fill-le = omega arith; zeros = zeros-are 64; fits = omega arith; selects = g }
 
 module _ (f : Flags) (bytes : List ℕ) (l : Loan) where
   -- and is well formed then
-  pub fed-formed : length bytes ≤ mostBytes → wellFormed (absorbed (freshOf f) bytes l) ≡ true
-  fed-formed s =
+  pub fed-formed : length bytes ≤ mostBytes → VectorsPass f (l .tables .vectors) → wellFormed (absorbed (freshOf f) bytes l) ≡ true
+  fed-formed s good =
       let r = rest-length bytes in
       rw (absorbed-is (freshOf f) bytes l)
-      (at-formed f (folded f l firstChain bytes) (restOf bytes) (omega arith) (omega (arith, folded-blocks f l firstChain bytes)) (folded-mark f l firstChain bytes refl))
+      (at-formed f (folded f l firstChain bytes) (restOf bytes) (omega arith) (omega (arith, folded-blocks f l firstChain bytes)) (folded-mark f l firstChain bytes good (none-fits (f .detect) 0)))
 
   -- its last blocks end where the padded message does
   pub fed-chain : lastChain (absorbed (freshOf f) bytes l) (later (length bytes / 64) l) ≡ wholeChain f bytes l

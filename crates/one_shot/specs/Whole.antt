@@ -14,7 +14,7 @@ use Rattle.flags.specs.declared.Flags.{Flags}
 use Rattle.loan.specs.Loan.{Loan, loanRefusal}
 use Rattle.stream.specs.Fold.{firstChain, folded}
 use Rattle.stream.specs.declared.Chain.{Chain}
-use Rattle.finish.specs.Finish.{outcomeOf, digestOr}
+use Rattle.finish.specs.Finish.{outcomeOf, digestOr, firstOr}
 use Rattle.one_shot.specs.declared.Digested.{Digested}
 
 -- the blocks of a message of n bytes, padding included
@@ -34,7 +34,7 @@ unfoldable pub wholeOf : Flags → List ℕ → Loan → Digested
 wholeOf f bytes l =
     let r = wholeRefusal f (length bytes) l in
     let c = wholeChain f bytes l in
-    record { outcome = outcomeOf r c (f .mitigate); digest = digestOr r c (replicate digestSize 0) }
+    record { outcome = outcomeOf r c (f .mitigate); digest = digestOr r c (replicate digestSize 0); first = firstOr r c }
 
 -- what the one-shot form gives: the same with the default flags
 abbrev pub digested : List ℕ → Loan → Digested

@@ -14,6 +14,7 @@ use loan::loan_refusal;
 use loan::masks_from;
 use refusal::Refusal;
 use refusal::is_nothing;
+use stream::FirstMark;
 use update::MOST_BYTES;
 use verdict::verdict_of;
 
@@ -21,6 +22,8 @@ use verdict::verdict_of;
 pub struct Digested {
     pub outcome: Outcome,
     pub digest: [u8; 20],
+    // As a finish hands it out.
+    pub first: FirstMark,
 }
 
 // What is refused of a message of n bytes.
@@ -59,14 +62,17 @@ pub fn whole(
     if is_nothing(r) {
         let h = absorb(Hasher::new(flags), bytes, table, conditions, masks);
         let c = last_chain(h, table, conditions, masks_from(masks, bytes.len() / 64));
+        let first = c.first;
         return Digested {
             outcome: Outcome::Done(verdict_of(c.mark, flags.mitigate)),
             digest: digest(c.words),
+            first,
         };
     }
     Digested {
         outcome: Outcome::Refused(r),
         digest: [0u8; 20],
+        first: FirstMark { block: 0, place: 0 },
     }
 }
 

@@ -9,6 +9,7 @@ use refusal::is_nothing;
 use refusal::number;
 use refusal::place;
 use search::Found;
+use stream::FirstMark;
 use verdict::Verdict;
 
 pub fn say(text: &[u8]) {
@@ -140,11 +141,20 @@ fn say_pending(pending: &[u8; 64]) {
     say_hex(pending);
 }
 
+// The first marked block and the place of the vector that marked it; zeros where none was.
+pub fn say_first(first: FirstMark) {
+    say(b"first block ");
+    say_decimal(first.block);
+    say(b", place ");
+    say_decimal(first.place as u64);
+}
+
 // Every field of a hasher.
 pub fn say_hasher(h: Hasher) {
     let words = h.words;
     let pending = h.pending;
     let flags = h.flags;
+    let first = h.first;
     say_words(words);
     say_pending(&pending);
     say(b" fill ");
@@ -152,6 +162,8 @@ pub fn say_hasher(h: Hasher) {
     say(b", blocks ");
     say_decimal(h.blocks);
     say_switch(b", mark", h.mark);
+    say(b", ");
+    say_first(first);
     say(b", ");
     say_flags(flags);
 }

@@ -8,6 +8,7 @@ use Rattle.octets.specs.Octets.{sameBytes}
 use Rattle.flags.specs.declared.Flags.{Flags}
 use Rattle.flags.specs.declared.Masks.{Masks}
 use Rattle.flags.specs.declared.Masks.the-variants.{All, Lent, Conditions}
+use Rattle.stream.specs.declared.FirstMark.{FirstMark}
 use Rattle.hasher.specs.declared.Hasher.{Hasher}
 
 -- both or neither
@@ -32,6 +33,10 @@ sameFlags a b =
     && (sameMasks (a .masks) (b .masks)
     && sameBit (a .reduced) (b .reduced)))
 
+-- the same block and place
+abbrev pub sameFirst : FirstMark → FirstMark → Bool
+sameFirst a b = eqb (a .block) (b .block) && eqb (a .place) (b .place)
+
 -- the same fill, block count and mark
 abbrev pub sameCounts : Hasher → Hasher → Bool
 sameCounts a b = eqb (a .fill) (b .fill) && (eqb (a .blocks) (b .blocks) && sameBit (a .mark) (b .mark))
@@ -42,4 +47,5 @@ sameHasher a b =
     sameRegs (regsOf (a .words)) (regsOf (b .words))
     && (sameBytes (a .pending) (b .pending)
     && (sameFlags (a .flags) (b .flags)
-    && sameCounts a b))
+    && (sameFirst (a .first) (b .first)
+    && sameCounts a b)))

@@ -6,6 +6,7 @@ use cases::flags_of_bits;
 use cases::number_at;
 use cases::word_field;
 use hasher::Hasher;
+use stream::FirstMark;
 
 // `abc` and zeros, with a last byte.
 fn pending(last: u32) -> [u8; 64]
@@ -19,7 +20,7 @@ fn pending(last: u32) -> [u8; 64]
     p
 }
 
-// A case gives the fields that can be ill formed: fill, blocks, last pending byte, flags and mark.
+// A case gives the fields that can be ill formed: fill, blocks, last pending byte, flags, mark and where it was first made.
 pub(crate) fn given_hasher(line: &[u8]) -> Hasher
     ensures { λ r. ⌜ r ≡ givenHasher (now (line .entry)) ⌝ }
 {
@@ -30,5 +31,9 @@ pub(crate) fn given_hasher(line: &[u8]) -> Hasher
         blocks: number_at(line, 8) as u64,
         flags: flags_of_bits(number_at(line, 10)),
         mark: number_at(line, 11) == 1,
+        first: FirstMark {
+            block: number_at(line, 12) as u64,
+            place: number_at(line, 13),
+        },
     }
 }

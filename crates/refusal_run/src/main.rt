@@ -26,7 +26,7 @@ use printing::say_hasher;
 
 // The hasher that calls are given.
 fn say_given(line: &[u8]) {
-    say(from_field(line, 19));
+    say(from_field(line, 21));
     say(b": hasher ");
     say_hasher(given_hasher(line));
     say(b"\n");
@@ -48,10 +48,10 @@ fn by_letter(letter: u8, line: &[u8], table: &[u32], conditions: &[u32], masks: 
 // The masks select no record with mask number 0; the conditions, if there are any, drop those.
 fn call_on(letter: u8, line: &[u8]) {
     let t = records_of(line);
-    let c = conditions_of(line, 15);
+    let c = conditions_of(line, 17);
     let masks = [0xFFFFFFFEu32; 3];
     let table = front(&t, number_at(line, 1));
-    let conditions = front(&c, number_at(line, 14));
+    let conditions = front(&c, number_at(line, 16));
     by_letter(
         letter,
         line,

@@ -2,13 +2,14 @@
 ghost use mathlib.Core.Path.{_≡_};
 ghost use Rattle.octets.specs.Octets.{sameBytes};
 ghost use Rattle.step.specs.Step.{regsOf, sameRegs};
-ghost use Rattle.refusal_run.specs.Same.{sameBit, settingNumber, sameMasks, sameFlags, sameCounts, sameHasher};
+ghost use Rattle.refusal_run.specs.Same.{sameBit, settingNumber, sameMasks, sameFlags, sameFirst, sameCounts, sameHasher};
 use flags::Flags;
 use flags::Masks;
 use hasher::Hasher;
 use octets::same_bytes;
 use step::regs_of;
 use step::same_regs;
+use stream::FirstMark;
 
 fn same_words(a: [u32; 5], b: [u32; 5]) -> bool
     ensures { λ r. ⌜ r ≡ sameRegs (regsOf a) (regsOf b) ⌝ }
@@ -64,6 +65,15 @@ fn same_flags(a: Flags, b: Flags) -> bool
     same_bit(a.reduced, b.reduced)
 }
 
+fn same_first(a: FirstMark, b: FirstMark) -> bool
+    ensures { λ r. ⌜ r ≡ sameFirst a b ⌝ }
+{
+    if a.block != b.block {
+        return false;
+    }
+    a.place == b.place
+}
+
 fn same_counts(a: Hasher, b: Hasher) -> bool
     ensures { λ r. ⌜ r ≡ sameCounts a b ⌝ }
 {
@@ -82,9 +92,11 @@ pub(crate) fn same_hasher(a: Hasher, b: Hasher) -> bool
     let words = a.words;
     let pending = a.pending;
     let flags = a.flags;
+    let first = a.first;
     let words_b = b.words;
     let pending_b = b.pending;
     let flags_b = b.flags;
+    let first_b = b.first;
     if !same_words(words, words_b) {
         return false;
     }
@@ -92,6 +104,9 @@ pub(crate) fn same_hasher(a: Hasher, b: Hasher) -> bool
         return false;
     }
     if !same_flags(flags, flags_b) {
+        return false;
+    }
+    if !same_first(first, first_b) {
         return false;
     }
     same_counts(a, b)

@@ -7,15 +7,14 @@ use native.Mathlib.Omega.{arith}
 use lib.ListN.{length, getD, take, drop, length-append, length-drop, drop-of-length-le}
 use lib.Seq.{drop-append-le, drop-nil}
 use Rattle.word.specs.Choice.{pick}
-use Rattle.word.proofs.Tests.{of-either}
 use Rattle.detect.specs.declared.Mode.{Mode}
 use Rattle.flags.specs.Flags.{usesMasks}
 use Rattle.flags.specs.declared.Flags.{Flags}
-use Rattle.loan.specs.Loan.{Loan, lookedAt, conditionsFor, later}
+use Rattle.loan.specs.Loan.{Loan, VectorsPass, lookedAt, conditionsFor, later}
 use Rattle.stream.specs.Fold.{allBits, modeOf, checkedOf, plainOf, blockOf, chained, folded}
 use Rattle.stream.specs.declared.Chain.{Chain}
-use Rattle.stream.proofs.Plain.{chained-plain}
-use Rattle.stream.proofs.Folds.{chained-zero, chained-add, chained-front}
+use Rattle.stream.proofs.Folds.{chained-zero, chained-add, chained-front, chained-keeps}
+use Rattle.stream.proofs.MarkRight.{MarkRight, mark-right}
 
 -- the masks that are looked at after the first n
 drop-picked : (on : Bool) (ms : List ℕ) (n : ℕ) → drop n (pick on ms []) ≡ pick on (drop n ms) []
@@ -39,18 +38,14 @@ unfolding checkedOf plainOf
 block-counts true mode table conditions c block mask = refl
 block-counts false mode table conditions c block mask = refl
 
--- with detection off no block leaves a mark, and with it on any mark is right
-marks-right : (on : Bool) (mode : Mode) (table conditions : List ℕ) (n : ℕ) (c : Chain) (xs ms : List ℕ) → pick (c .mark) on true ≡ true
-    → pick (chained (pick on (checkedOf mode table conditions) plainOf) n c xs ms .mark) on true ≡ true
-marks-right true mode table conditions n c xs ms m =
-    of-either (λ (b : Bool). b ≡ true) (chained (checkedOf mode table conditions) n c xs ms .mark) true true refl refl
-marks-right false mode table conditions n c xs ms m = rw (chained-plain n c xs ms) m
-
 module _ (f : Flags) (l : Loan) (c : Chain) where
-  -- a chain that has a mark only with detection on stays so
-  pub folded-mark : (xs : List ℕ) → pick (c .mark) (f .detect) true ≡ true → pick (folded f l c xs .mark) (f .detect) true ≡ true
+  -- a chain whose mark fits where it was made stays so, if the vectors that are looked at are good
+  pub folded-mark : (xs : List ℕ) → VectorsPass f (l .tables .vectors) → MarkRight (f .detect) c → MarkRight (f .detect) (folded f l c xs)
   unfolding folded
-  folded-mark xs = marks-right (f .detect) (modeOf f) (l .tables .vectors) (conditionsFor f (l .tables .conditions)) (length xs / 64) c xs (lookedAt f (l .masks))
+  folded-mark xs good =
+      chained-keeps (blockOf f (l .tables)) (MarkRight (f .detect))
+      (mark-right (f .detect) (modeOf f) (l .tables .vectors) (conditionsFor f (l .tables .conditions)) (λ d. good d .most))
+      (length xs / 64) c xs (lookedAt f (l .masks))
 
   pub folded-blocks : (xs : List ℕ) → folded f l c xs .blocks ≡ c .blocks + length xs / 64
   unfolding folded

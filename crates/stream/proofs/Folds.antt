@@ -76,3 +76,10 @@ module _ (step : Chain → List ℕ → ℕ → Chain) where
       let d : n ≤ length (drop 1 ms) = omega (arith, length-drop 1 ms) in
       rw (chained-suc n c xs (ms ++ ns), chained-suc n c xs ms, List·getD-append ms ns allBits 0 l, drop-append-le 1 ms ns l)
       (chained-masks n _ (drop 64 xs) (drop 1 ms) ns d)
+
+  -- what one block keeps, all keep
+  pub chained-keeps : (P : Chain → Type 0) → ((c : Chain) (block : List ℕ) (mask : ℕ) → P c → P (step c block mask))
+      → (n : ℕ) (c : Chain) (xs ms : List ℕ) → P c → P (chained step n c xs ms)
+  unfolding chained
+  chained-keeps P one zero c xs ms p = p
+  chained-keeps P one (suc n) c xs ms p = chained-keeps P one n _ (drop 64 xs) (drop 1 ms) (one c (take 64 xs) (getD ms 0 allBits) p)

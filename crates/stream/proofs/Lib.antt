@@ -1,3 +1,4 @@
 pub mod Folds
+pub mod MarkRight
 pub mod Folded
 pub mod Plain

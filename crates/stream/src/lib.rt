@@ -4,19 +4,27 @@ ghost use Prim.Native.Nat.{_+_, _/_, _^_, _<_};
 ghost use lib.ListN.{length, getD};
 ghost use Rattle.conditions.specs.Good.{GoodConditions};
 ghost use Rattle.loan.specs.Loan.{loanOf, conditionsFor};
-ghost use Rattle.stream.specs.Fold.{allBits, checkedOf, chained, folded};
+ghost use Rattle.stream.specs.Fold.{allBits, firstAfter, checkedOf, chained, folded};
 use detect::Mode;
 use detect::compress;
 use fips::hash_blocks;
 use flags::Flags;
 use loan::conditions_for;
 use loan::looked_at;
+use search::Found;
 use step::Regs;
 
-// What stands between two blocks: the chaining words, whether a block was marked, and how many blocks there were.
+// Which block was the first to be marked, from 0, and the place of the vector that marked it; zeros where none was.
+pub struct FirstMark {
+    pub block: u64,
+    pub place: usize,
+}
+
+// What stands between two blocks: the chaining words, whether a block was marked and which one first, and how many blocks there were.
 pub struct Chain {
     pub words: Regs,
     pub mark: bool,
+    pub first: FirstMark,
     pub blocks: u64,
 }
 
@@ -28,6 +36,22 @@ fn mask_at(masks: &[u32], i: usize) -> u32
         return masks[i];
     }
     0xFFFFFFFF
+}
+
+// The first mark after one block more: it stays, and a marked block gives one only where none was before.
+fn first_after(c: Chain, found: Found) -> FirstMark
+    ensures { λ r. ⌜ r ≡ firstAfter c found ⌝ }
+{
+    if c.mark {
+        return c.first;
+    }
+    if found.mark {
+        return FirstMark {
+            block: c.blocks,
+            place: found.place,
+        };
+    }
+    c.first
 }
 
 // One block with detection: a mark stays.
@@ -47,10 +71,12 @@ fn checked(
     let a = compress(mode, table, conditions, c.words, block, mask);
     let words = a.words;
     let found = a.found;
+    let first = first_after(c, found);
     let blocks = c.blocks + 1;
     Chain {
         words,
         blocks,
+        first,
         mark: c.mark || found.mark,
     }
 }
@@ -111,9 +137,11 @@ pub fn fold_blocks(
         );
     }
     let n = m.len() / 64;
+    let first = c.first;
     Chain {
         words: hash_blocks(c.words, m),
         mark: c.mark,
+        first,
         blocks: c.blocks + (n as u64),
     }
 }

@@ -6,6 +6,7 @@ use Prim.Native.Nat.{ℕ, _+_, _-_, _/_, _%_, _≤_}
 use native.Mathlib.Omega.{arith}
 use lib.ListN.{length, replicate, length-append, length-replicate}
 use Rattle.loan.specs.Loan.{Loan}
+use Rattle.loan.proofs.Loans.{loan-accepted, tables-good}
 use Rattle.stream.proofs.Folded.{folded-mark, folded-blocks}
 use Rattle.hasher.specs.Hasher.{wellFormed, taken, chainOf}
 use Rattle.hasher.specs.declared.Hasher.{Hasher}
@@ -53,4 +54,4 @@ module _ (h : Hasher) (bytes : List ℕ) (l : Loan) where
         let fits = a .fits in
         rw (absorbed-is h bytes l)
         (at-formed (h .flags) (chainAfter h bytes l) (restOf s) (omega (arith, rest-length s)) (omega (arith, counted))
-        (folded-mark (h .flags) l (chainOf h) s (sure .mark-ok)))
+        (folded-mark (h .flags) l (chainOf h) s (tables-good (h .flags) (l .tables) (loan-accepted (h .flags) l _ (a .loan) .good) .1) (sure .mark-fits)))

@@ -33,7 +33,6 @@ use denote.Slice.{sliceTy, sliceVal, finally, MutSlice, ShrSlice, slice-vals, mu
 use denote.Signature.{plain}
 use denote.Steps.{only, owned, peeks, facts, heard, nothing}
 use denote.Struct.Laws as LL
-use denote.Enum.Laws as EL
 use denote.Triple.Statement.{Contract, Triple}
 use denote.Triple.Call.{calls-at}
 use denote.Triple.Clauses.{ensured, lasts}
@@ -43,15 +42,17 @@ use denote.Triple.Table.{entered, cited}
 use denote.Triple.Walked.{says, needs, Stays, stay-none, stay-none-slice, gave-slice, walkOf, AllGo, goes-none, goes-none-slice, goes-gave-slice, Walks, ends-at, walked, walk-meets}
 use denote.Exit.{yes}
 use Rattle.hasher.specs.declared.Hasher.{Hasher}
-use Rattle.finish.specs.declared.Outcome.{Outcome}
 use Rattle.loan.specs.Loan.{loanOf}
-use Rattle.bench.specs.Bench.{laneOutcome, laneFinished, laneWritten}
+use Rattle.bench.specs.Bench.{laneAnswer, laneFinished, laneWritten}
+use Rattle.bench.specs.declared.LaneAnswer.{LaneAnswer}
 use Rattle.bench_by_value.specs.ByValue.{finishedThrough, writtenThrough}
 use Rattle.bench_by_value.specs.declared.BenchFinished.{BenchFinished}
+use Rattle.stream.proofs.FirstMark as F
+use Rattle.stream.proofs.FirstMark.Laws as F′
 use Rattle.hasher.proofs.Hasher as T
 use Rattle.hasher.proofs.Hasher.Laws as T′
-use Rattle.finish.proofs.Outcome as N
-use Rattle.finish.proofs.Outcome.Laws as N′
+use Rattle.bench.proofs.LaneAnswer as N
+use Rattle.bench.proofs.LaneAnswer.Laws as N′
 use Rattle.bench_by_value.proofs.BenchFinished as U
 use Rattle.bench_by_value.proofs.BenchFinished.Laws as U′
 use Rattle.in_place.proofs.Passed.{v}
@@ -72,18 +73,22 @@ stayed = (stay-none (λ _. R) yes, (stay-none (λ _. usize) yes, (stay-none (λ 
 abbrev Lane : {M : Type 1} (𝓤 : URA M) (H : Heap 𝓤) (A : Atoms 𝓤) (mem : Memory → SProp 𝓤) (run : Routine → Fun 𝓤) → Contract 𝓤
 Lane 𝓤 H A mem run = tripleOf 𝓤 H A g.signature (g.spec 𝓤 H A mem run)
 
-abbrev machN : Outcome → Val
-machN n = only (EL.vals N.the-type N′.the-laws n)
+abbrev machN : LaneAnswer → Val
+machN n = only (LL.vals N.the-type N′.the-laws n)
 
 abbrev machF : BenchFinished → Val
 machF r = only (LL.vals U.the-type U′.the-laws r)
 
--- what is returned, of what `lane_finish` answered and the whole bench
-abbrev put-together : Outcome → List Hasher → BenchFinished
-put-together n zs = record { outcome = n; bench = zs }
+-- what is known of the first mark that `lane_finish` answers
+first-is : (n : LaneAnswer) → Is N.the-row n (machN n ∷ []) → Is F.the-row (n .first) (only (LL.vals F.the-type F′.the-laws (n .first)) ∷ [])
+first-is n is = LL.owed N.the-type N′.the-laws n _ is .1 .0
 
-together-is : (n : Outcome) (zs : List Hasher) → Is N.the-row n (machN n ∷ []) → Is R zs (marr zs ∷ []) → Is U.the-row (put-together n zs) (machF (put-together n zs) ∷ [])
-together-is n zs is gis = LL.owes U.the-type U′.the-laws (put-together n zs) (is, (field-is zs gis, tt))
+-- what is returned, of what `lane_finish` answered and the whole bench
+abbrev put-together : LaneAnswer → List Hasher → BenchFinished
+put-together n zs = record { outcome = n .outcome; first = n .first; bench = zs }
+
+together-is : (n : LaneAnswer) (zs : List Hasher) → Is N.the-row n (machN n ∷ []) → Is R zs (marr zs ∷ []) → Is U.the-row (put-together n zs) (machF (put-together n zs) ∷ [])
+together-is n zs is gis = LL.owes U.the-type U′.the-laws (put-together n zs) (LL.owed N.the-type N′.the-laws n _ is .0, (first-is n is, (field-is zs gis, tt)))
 
 module _ {M : Type 1} (𝓤 : URA M) (H : Heap 𝓤) (A : Atoms 𝓤) (W : Given 𝓤 H A) (at-mem : Memory → SProp 𝓤) (run : Routine → Fun 𝓤) (κ₁ κ₂ κ₃ κ₄ : Lft) (q₁ q₂ q₃ q₄ : Share) (xs : List Hasher) (count lane : ℕ) (s₁ s₂ s₃ s₄ : RefT (List ℕ)) where
   abbrev Arg : Type 0
@@ -135,8 +140,8 @@ module _ {M : Type 1} (𝓤 : URA M) (H : Heap 𝓤) (A : Atoms 𝓤) (W : Given
   Toks = ‵ (flft κ₁ q₁) ⊛ ‵ (flft κ₂ q₂) ⊛ ‵ (flft κ₃ q₃) ⊛ ‵ (flft κ₄ q₄) ⊛ ‵ ftrue
 
   -- what `lane_finish` makes of the hashers that are lent and of `out`
-  abbrev Said : Outcome → List Hasher → List ℕ → Type 0
-  Said n zs os = (zs ≡ laneFinished (front count xs) lane (s₁ .now) (loanOf (s₂ .now) (s₃ .now) (s₄ .now))) × (os ≡ laneWritten (front count xs) lane (s₁ .now) (loanOf (s₂ .now) (s₃ .now) (s₄ .now))) × (n ≡ laneOutcome (front count xs) lane (s₁ .now) (loanOf (s₂ .now) (s₃ .now) (s₄ .now)))
+  abbrev Said : LaneAnswer → List Hasher → List ℕ → Type 0
+  Said n zs os = (zs ≡ laneFinished (front count xs) lane (s₁ .now) (loanOf (s₂ .now) (s₃ .now) (s₄ .now))) × (os ≡ laneWritten (front count xs) lane (s₁ .now) (loanOf (s₂ .now) (s₃ .now) (s₄ .now))) × (n ≡ laneAnswer (front count xs) lane (s₁ .now) (loanOf (s₂ .now) (s₃ .now) (s₄ .now)))
 
   abbrev Post : Val → SProp 𝓤
   Post = walkOf 𝓤 H A f.ended stayed (f.clauses 𝓤 H A at-mem run) .post (((κ₁, (κ₂, (κ₃, (κ₄, tt)))), (q₁, (q₂, (q₃, (q₄, tt)))), tt, x, vals), tt)
@@ -166,25 +171,25 @@ module _ {M : Type 1} (𝓤 : URA M) (H : Heap 𝓤) (A : Atoms 𝓤) (W : Given
         qed W (Toks ∷ ‵ (owns (R ∷ usize ∷ usize ∷ MutSlice (named 0) κ₁ u8 ∷ ShrSlice (named 1) κ₂ u32 ∷ ShrSlice (named 2) κ₃ u32 ∷ ShrSlice (named 3) κ₄ u32 ∷ []) x vals) ∷ []) ∵
         move ! (1 ∷ []) $ fsplit ! $ drop ! $ fsplit ! $ drop ! $ fsplit ! $ drop ! $ fsplit ! $ move ! (1 ∷ []) $ use1 W (‵ Rest ⊛ ‵ Rest) rest-twice $ split ! $ move ! (3 ∷ 2 ∷ []) $
         enter ! C Λ code.function (marr xs ∷ vint w64 count ∷ vint w64 lane ∷ v s₁ ∷ v s₂ ∷ v s₃ ∷ v s₄ ∷ []) _ $
-        alloc1 ! (λ l₀. alloc1 ! (λ l₁. alloc1 ! (λ l₂. alloc1 ! (λ l₃. alloc1 ! (λ l₄. alloc1 ! (λ l₅. alloc1 ! (λ l₆. alloc1 ! (λ l₇. alloc1 ! (λ l₈. alloc1 ! (λ l₉. alloc1 ! (λ l₁₀. alloc1 ! (λ l₁₁. alloc1 ! (λ l₁₂. alloc1 ! (λ l₁₃. alloc1 ! (λ l₁₄. alloc0 ! $ params1 ! $
-        pass1 ! (init ! 26 refl (array-lawful 𝓤 H A W T.the-row (LL.lawful T.the-type T′.the-laws 𝓤 H A W) 17 .typed xs _ was .0)) $ pass1 ! (init ! 24 refl (tt, record { fits = gc })) $ pass1 ! (init ! 22 refl (tt, record { fits = gl })) $
-        pass1 ! (init ! 20 refl (tt, (tt, (record { fits = p₁ .0 .1 .0 }, tt)))) $ pass1 ! (init ! 18 refl (shr-slice-lawful 𝓤 H A W (named 1) κ₂ u32 .typed s₂ (v s₂ ∷ []) p₂ .0)) $
-        pass1 ! (init ! 16 refl (shr-slice-lawful 𝓤 H A W (named 2) κ₃ u32 .typed s₃ (v s₃ ∷ []) p₃ .0)) $ pass1 ! (init ! 14 refl (shr-slice-lawful 𝓤 H A W (named 3) κ₄ u32 .typed s₄ (v s₄ ∷ []) p₄ .0)) $ pass0 ! $
-        -- [0 _14; 2 _13; 4 _12; 6 _11; 8 _10; 10 _9; 12 _8; 14 _7; 16 _6; 18 _5; 20 _4; 22 _3; 24 _2; 26 _1; 28 _0; 30 the slices' tokens; 31 Out; 32 Rest; 33 Rest]
-        assigns ! (of-opd ! (load ! (from ! (stop !)) (look ! 26 refl))) (from ! (stop !)) (init ! 12 refl (array-lawful 𝓤 H A W T.the-row (LL.lawful T.the-type T′.the-laws 𝓤 H A W) 17 .typed xs _ was .0)) $
+        alloc1 ! (λ l₀. alloc1 ! (λ l₁. alloc1 ! (λ l₂. alloc1 ! (λ l₃. alloc1 ! (λ l₄. alloc1 ! (λ l₅. alloc1 ! (λ l₆. alloc1 ! (λ l₇. alloc1 ! (λ l₈. alloc1 ! (λ l₉. alloc1 ! (λ l₁₀. alloc1 ! (λ l₁₁. alloc1 ! (λ l₁₂. alloc1 ! (λ l₁₃. alloc1 ! (λ l₁₄. alloc1 ! (λ l₁₅. alloc0 ! $ params1 ! $
+        pass1 ! (init ! 28 refl (array-lawful 𝓤 H A W T.the-row (LL.lawful T.the-type T′.the-laws 𝓤 H A W) 17 .typed xs _ was .0)) $ pass1 ! (init ! 26 refl (tt, record { fits = gc })) $ pass1 ! (init ! 24 refl (tt, record { fits = gl })) $
+        pass1 ! (init ! 22 refl (tt, (tt, (record { fits = p₁ .0 .1 .0 }, tt)))) $ pass1 ! (init ! 20 refl (shr-slice-lawful 𝓤 H A W (named 1) κ₂ u32 .typed s₂ (v s₂ ∷ []) p₂ .0)) $
+        pass1 ! (init ! 18 refl (shr-slice-lawful 𝓤 H A W (named 2) κ₃ u32 .typed s₃ (v s₃ ∷ []) p₃ .0)) $ pass1 ! (init ! 16 refl (shr-slice-lawful 𝓤 H A W (named 3) κ₄ u32 .typed s₄ (v s₄ ∷ []) p₄ .0)) $ pass0 ! $
+        -- [0 _15; 2 _14; 4 _13; 6 _12; 8 _11; 10 _10; 12 _9; 14 _8; 16 _7; 18 _6; 20 _5; 22 _4; 24 _3; 26 _2; 28 _1; 30 _0; 32 the slices' tokens; 33 Out; 34 Rest; 35 Rest]
+        assigns ! (of-opd ! (load ! (from ! (stop !)) (look ! 28 refl))) (from ! (stop !)) (init ! 14 refl (array-lawful 𝓤 H A W T.the-row (LL.lawful T.the-type T′.the-laws 𝓤 H A W) 17 .typed xs _ was .0)) $
         assigns ! (addr ! (from ! (stop !))) (from ! (stop !)) (init ! 8 refl (tt, tt)) $
-        assigns ! (agg ! (and-then ! (load ! (from ! (stop !)) (look ! 8 refl)) (and-then ! (load ! (from ! (stop !)) (look ! 24 refl)) (no-more !)))) (from ! (stop !)) (init ! 6 refl (tt, (tt, (record { fits = gc }, tt)))) $
-        rewrite ! 6 (λ (m : ℕ). ‵ (fat fullShare (sliceTy (tyRef erased mut (pointee (T.the-row .written)))) l₁₁ 0 (sliceVal (l₈, 0) m))) (sym (counted count xs few was)) refl $
+        assigns ! (agg ! (and-then ! (load ! (from ! (stop !)) (look ! 8 refl)) (and-then ! (load ! (from ! (stop !)) (look ! 26 refl)) (no-more !)))) (from ! (stop !)) (init ! 6 refl (tt, (tt, (record { fits = gc }, tt)))) $
+        rewrite ! 6 (λ (m : ℕ). ‵ (fat fullShare (sliceTy (tyRef erased mut (pointee (T.the-row .written)))) l₁₂ 0 (sliceVal (l₈, 0) m))) (sym (counted count xs few was)) refl $
         -- `out` is passed on
-        assigns ! (addr ! (from ! (fld ! refl (hop ! (look-in ! 20 (sub ! 0 refl (whole !))) (stop !))))) (from ! (stop !)) (init ! 4 refl (tt, tt)) $
-        assigns ! (agg ! (and-then ! (load ! (from ! (stop !)) (look ! 4 refl)) (and-then ! (load ! (from ! (fld ! refl (stop !))) (look-in ! 20 (sub ! 1 refl (whole !)))) (no-more !)))) (from ! (stop !)) (init ! 2 refl (tt, (tt, (record { fits = p₁ .0 .1 .0 }, tt)))) $
+        assigns ! (addr ! (from ! (fld ! refl (hop ! (look-in ! 22 (sub ! 0 refl (whole !))) (stop !))))) (from ! (stop !)) (init ! 4 refl (tt, tt)) $
+        assigns ! (agg ! (and-then ! (load ! (from ! (stop !)) (look ! 4 refl)) (and-then ! (load ! (from ! (fld ! refl (stop !))) (look-in ! 22 (sub ! 1 refl (whole !)))) (no-more !)))) (from ! (stop !)) (init ! 2 refl (tt, (tt, (record { fits = p₁ .0 .1 .0 }, tt)))) $
         -- the first hashers are lent for a lifetime ν of the call
-        lft-new ! tt (λ ν. move ! (13 ∷ []) $ use1 W (later (some (λ (δ : GName). ‵ (Lent count xs l₈ ν δ) ⊛ ‵ (Kept count xs l₈ ν δ)))) (lends count xs l₈ 𝓤 H A W ν was) $ await ! tt $ pick ! (λ δ. split ! $
-        -- [0 the slice; 1 what the lender keeps; 2 ν's token; 3 _14; 5 _13; 7 _12; 9 _11; 11 _10; 13 _9; 15 what frees _8; 16 _7; 18 _6; 20 _5; 22 _4; 24 _3; 26 _2; 28 _1; 30 _0; 32 the slices' tokens; 33 Out; 34 Rest; 35 Rest]
-        move ! (2 ∷ 32 ∷ []) $ join ! $ move ! (32 ∷ 33 ∷ []) $ fjoin ! $ owned ! usize (Is usize) (uint-makes 𝓤 H A W w64) lane _ (refl, gl) $ fjoin ! $ move ! (2 ∷ 0 ∷ []) $ fjoin ! $ move ! (1 ∷ 0 ∷ []) $ use2 W (raw (Lane 𝓤 H A at-mem run .pre (to ν δ l₈))) (asked ν δ l₈) $
-        -- [0 what `lane_finish` asks; 1 what the lender keeps; 2 _14; 4 _13; 6 _12; 8 _11; 10 _10; 12 _9; 14 what frees _8; 15 _7; 17 _6; 19 _5; 21 _4; 23 _3; 25 _2; 27 _1; 29 _0; 31 Rest]
-        calls-at ! fm (Lane 𝓤 H A at-mem run) known (to ν δ l₈) (and-then ! (load ! (from ! (stop !)) (look ! 8 refl)) (and-then ! (load ! (from ! (stop !)) (look ! 23 refl)) (and-then ! (load ! (from ! (stop !)) (look ! 4 refl)) (and-then ! (load ! (from ! (stop !)) (look ! 19 refl)) (and-then ! (load ! (from ! (stop !)) (look ! 17 refl)) (and-then ! (load ! (from ! (stop !)) (look ! 15 refl)) (no-more !))))))) (λ u.
-        use1 W (later (some (λ (n : Outcome). ((‵ (flft (ν ∷ []) fullShare) ⊛ Toks) ⊛ ‵ (N.the-row .own n (u ∷ []))) ⊛ raw (ensured 𝓤 H A g.ended (g.clauses 𝓤 H A at-mem run) (ν ∷ [], (κ₁, (κ₂, (κ₃, (κ₄, tt))))) (lent-at count xs l₈ δ, (lane, (s₁, (s₂, (s₃, (s₄, tt)))))) tt n)))) (id⊢ 𝓤 _) $ await ! tt $ pick ! (λ n.
+        lft-new ! tt (λ ν. move ! (15 ∷ []) $ use1 W (later (some (λ (δ : GName). ‵ (Lent count xs l₈ ν δ) ⊛ ‵ (Kept count xs l₈ ν δ)))) (lends count xs l₈ 𝓤 H A W ν was) $ await ! tt $ pick ! (λ δ. split ! $
+        -- [0 the slice; 1 what the lender keeps; 2 ν's token; 3 _15; 5 _14; 7 _13; 9 _12; 11 _11; 13 _10; 15 _9; 17 what frees _8; 18 _7; 20 _6; 22 _5; 24 _4; 26 _3; 28 _2; 30 _1; 32 _0; 34 the slices' tokens; 35 Out; 36 Rest; 37 Rest]
+        move ! (2 ∷ 34 ∷ []) $ join ! $ move ! (34 ∷ 35 ∷ []) $ fjoin ! $ owned ! usize (Is usize) (uint-makes 𝓤 H A W w64) lane _ (refl, gl) $ fjoin ! $ move ! (2 ∷ 0 ∷ []) $ fjoin ! $ move ! (1 ∷ 0 ∷ []) $ use2 W (raw (Lane 𝓤 H A at-mem run .pre (to ν δ l₈))) (asked ν δ l₈) $
+        -- [0 what `lane_finish` asks; 1 what the lender keeps; 2 _15; 4 _14; 6 _13; 8 _12; 10 _11; 12 _10; 14 _9; 16 what frees _8; 17 _7; 19 _6; 21 _5; 23 _4; 25 _3; 27 _2; 29 _1; 31 _0; 33 Rest]
+        calls-at ! fm (Lane 𝓤 H A at-mem run) known (to ν δ l₈) (and-then ! (load ! (from ! (stop !)) (look ! 8 refl)) (and-then ! (load ! (from ! (stop !)) (look ! 25 refl)) (and-then ! (load ! (from ! (stop !)) (look ! 4 refl)) (and-then ! (load ! (from ! (stop !)) (look ! 21 refl)) (and-then ! (load ! (from ! (stop !)) (look ! 19 refl)) (and-then ! (load ! (from ! (stop !)) (look ! 17 refl)) (no-more !))))))) (λ u.
+        use1 W (later (some (λ (n : LaneAnswer). ((‵ (flft (ν ∷ []) fullShare) ⊛ Toks) ⊛ ‵ (N.the-row .own n (u ∷ []))) ⊛ raw (ensured 𝓤 H A g.ended (g.clauses 𝓤 H A at-mem run) (ν ∷ [], (κ₁, (κ₂, (κ₃, (κ₄, tt))))) (lent-at count xs l₈ δ, (lane, (s₁, (s₂, (s₃, (s₄, tt)))))) tt n)))) (id⊢ 𝓤 _) $ await ! tt $ pick ! (λ n.
         -- what it ensures, at some last lists of the hashers and of `out`
         split ! $ move ! (1 ∷ []) $ use1 W (some (λ (ls : Lasts). ‵ (lasts g.ended (ν ∷ [], (κ₁, (κ₂, (κ₃, (κ₄, tt))))) (lent-at count xs l₈ δ, (lane, (s₁, (s₂, (s₃, (s₄, tt)))))) ls) ⊛ raw (fact 𝓤 (Said n (ls .0) (ls .1 .1 .0))))) (id⊢ 𝓤 _) $ pick ! (λ ls.
         split ! $ move ! (1 ∷ []) $ heard ! (Said n (ls .0) (ls .1 .1 .0)) (λ e. fsplit ! $ fsplit ! $ move ! (1 ∷ []) $ drop ! $
@@ -192,23 +197,24 @@ module _ {M : Type 1} (𝓤 : URA M) (H : Heap 𝓤) (A : Atoms 𝓤) (W : Given
         move ! (1 ∷ []) $ fsplit ! $ drop ! $ fsplit ! $ fsplit ! $ move ! (1 ∷ []) $ feqL ! (λ len. move ! (1 ∷ []) $ drop ! $
         -- [what says `out`'s last list; what says the hashers' last list; the tokens and the result; what the lender keeps; ..]
         move ! (2 ∷ []) $ split ! $ move ! (1 ∷ []) $
-        peeks ! N.the-row (Is N.the-row) (shows 𝓤 H A N.the-row) n (u ∷ []) (λ is₀. rewrite ! 0 (λ (w : Val). ‵ (N.the-row .own n (w ∷ []))) (ap only (EL.tells N.the-type N′.the-laws n _ is₀)) refl $
+        peeks ! N.the-row (Is N.the-row) (shows 𝓤 H A N.the-row) n (u ∷ []) (λ is₀. rewrite ! 0 (λ (w : Val). ‵ (N.the-row .own n (w ∷ []))) (ap only (LL.tells N.the-type N′.the-laws n _ is₀)) refl $
         facts ! N.the-row (Is N.the-row) (shows 𝓤 H A N.the-row) n (machN n ∷ []) (λ is.
-        -- [0 the tokens; 1 `out`'s last list; 2 the hashers' last list; 3 what the lender keeps; 4 _14; 6 _13; 8 _12; 10 _11; 12 _10; 14 _9; 16 what frees _8; 17 _7; 19 _6; 21 _5; 23 _4; 25 _3; 27 _2; 29 _1; 31 _0; 33 Rest]
-        land ! (from ! (stop !)) (init ! 14 refl (EL.lawful N.the-type N′.the-laws 𝓤 H A W tt .typed n _ is₀ .0)) $
-        rewrite ! 14 (λ (w : Val). ‵ (fat fullShare N′.mir l₉ 0 w)) (ap only (EL.tells N.the-type N′.the-laws n _ is₀)) refl $
+        -- [0 the tokens; 1 `out`'s last list; 2 the hashers' last list; 3 what the lender keeps; 4 _15; 6 _14; 8 _13; 10 _12; 12 _11; 14 _10; 16 _9; 18 what frees _8; 19 _7; 21 _6; 23 _5; 25 _4; 27 _3; 29 _2; 31 _1; 33 _0; 35 Rest]
+        land ! (from ! (stop !)) (init ! 16 refl (LL.lawful N.the-type N′.the-laws 𝓤 H A W .typed n _ is₀ .0)) $
+        rewrite ! 16 (λ (w : Val). ‵ (fat fullShare N′.mir l₉ 0 w)) (ap only (LL.tells N.the-type N′.the-laws n _ is₀)) refl $
         -- the lifetime is ended, and the local is whole again
         split ! $ lft-end ! tt $ move ! (0 ∷ 4 ∷ 3 ∷ []) $ use3 W (later (‵ (Local count xs l₈ (back count xs (ls .0))) ⊛ ‵ (Owned count xs l₈ (back count xs (ls .0))))) (comes-back count xs l₈ 𝓤 H A W ν δ (ls .0) was) $ await ! tt $ split ! $ move ! (1 ∷ []) $ facts ! R (Is R) (shows 𝓤 H A R) (back count xs (ls .0)) (marr (back count xs (ls .0)) ∷ []) (λ gis.
-        -- [0 _8; 1 the slices' tokens; 2 `out`'s last list; 3 _14; 5 _13; 7 _12; 9 _11; 11 _10; 13 _9; 15 what frees _8; 16 _7; 18 _6; 20 _5; 22 _4; 24 _3; 26 _2; 28 _1; 30 _0; 32 Rest]
+        -- [0 _8; 1 the slices' tokens; 2 `out`'s last list; 3 _15; 5 _14; 7 _13; 9 _12; 11 _11; 13 _10; 15 _9; 17 what frees _8; 18 _7; 20 _6; 22 _5; 24 _4; 26 _3; 28 _2; 30 _1; 32 _0; 34 Rest]
+        assigns ! (of-opd ! (load ! (from ! (fld ! refl (stop !))) (look-in ! 15 (sub ! 1 refl (whole !))))) (from ! (stop !)) (init ! 13 refl (LL.lawful F.the-type F′.the-laws 𝓤 H A W .typed (n .first) _ (first-is n is) .0)) $
         assigns ! (of-opd ! (load ! (from ! (stop !)) (look ! 0 refl))) (from ! (stop !)) (init ! 3 refl (array-lawful 𝓤 H A W T.the-row (LL.lawful T.the-type T′.the-laws 𝓤 H A W) 17 .typed (back count xs (ls .0)) _ gis .0)) $
-        rewrite ! 3 (λ (w : Val). ‵ (fat fullShare (tyArray T′.mir 17) l₁₄ 0 w)) (same-val (back count xs (ls .0))) refl $
-        assigns ! (agg ! (and-then ! (load ! (from ! (stop !)) (look ! 13 refl)) (and-then ! (load ! (from ! (stop !)) (look ! 3 refl)) (no-more !)))) (from ! (stop !))
-        (init ! 30 refl (LL.lawful U.the-type U′.the-laws 𝓤 H A W .typed (put-together n (back count xs (ls .0))) _ (together-is n (back count xs (ls .0)) is gis) .0)) $
-        returns ! (look ! 30 refl) $ forget ! 0 refl $ forget ! 3 refl $ forget ! 5 refl $ forget ! 7 refl $ forget ! 9 refl $ forget ! 11 refl $ forget ! 13 refl $ forget ! 16 refl $ forget ! 18 refl $ forget ! 20 refl $ forget ! 22 refl $ forget ! 24 refl $ forget ! 26 refl $ forget ! 28 refl $ forget ! 30 refl $
-        move ! (30 ∷ 31 ∷ []) $ free1 ! $ move ! (28 ∷ 29 ∷ []) $ free1 ! $ move ! (26 ∷ 27 ∷ []) $ free1 ! $ move ! (24 ∷ 25 ∷ []) $ free1 ! $ move ! (22 ∷ 23 ∷ []) $ free1 ! $ move ! (20 ∷ 21 ∷ []) $ free1 ! $ move ! (18 ∷ 19 ∷ []) $ free1 ! $ move ! (16 ∷ 17 ∷ []) $ free1 ! $ move ! (0 ∷ 15 ∷ []) $ free1 ! $
-        -- [0 the slices' tokens; 1 `out`'s last list; 2 _14; 4 _13; 6 _12; 8 _11; 10 _10; 12 _9; 14 Rest]
-        move ! (12 ∷ 13 ∷ []) $ free1 ! $ move ! (10 ∷ 11 ∷ []) $ free1 ! $ move ! (8 ∷ 9 ∷ []) $ free1 ! $ move ! (6 ∷ 7 ∷ []) $ free1 ! $ move ! (4 ∷ 5 ∷ []) $ free1 ! $ move ! (2 ∷ 3 ∷ []) $ free1 ! $ free0 ! $
-        by ! (exits (put-together n (back count xs (ls .0))) (ls .1 .1 .0) (e .1, λ i. put-together (e .2 i) (back count xs (e .0 i))) len was gc gl (together-is n (back count xs (ls .0)) is gis)))))))))))))))))))))))))))
+        rewrite ! 3 (λ (w : Val). ‵ (fat fullShare (tyArray T′.mir 17) l₁₅ 0 w)) (same-val (back count xs (ls .0))) refl $
+        assigns ! (agg ! (and-then ! (load ! (from ! (fld ! refl (stop !))) (look-in ! 15 (sub ! 0 refl (whole !)))) (and-then ! (load ! (from ! (stop !)) (look ! 13 refl)) (and-then ! (load ! (from ! (stop !)) (look ! 3 refl)) (no-more !))))) (from ! (stop !))
+        (init ! 32 refl (LL.lawful U.the-type U′.the-laws 𝓤 H A W .typed (put-together n (back count xs (ls .0))) _ (together-is n (back count xs (ls .0)) is gis) .0)) $
+        returns ! (look ! 32 refl) $ forget ! 0 refl $ forget ! 3 refl $ forget ! 5 refl $ forget ! 7 refl $ forget ! 9 refl $ forget ! 11 refl $ forget ! 13 refl $ forget ! 15 refl $ forget ! 18 refl $ forget ! 20 refl $ forget ! 22 refl $ forget ! 24 refl $ forget ! 26 refl $ forget ! 28 refl $ forget ! 30 refl $ forget ! 32 refl $
+        move ! (32 ∷ 33 ∷ []) $ free1 ! $ move ! (30 ∷ 31 ∷ []) $ free1 ! $ move ! (28 ∷ 29 ∷ []) $ free1 ! $ move ! (26 ∷ 27 ∷ []) $ free1 ! $ move ! (24 ∷ 25 ∷ []) $ free1 ! $ move ! (22 ∷ 23 ∷ []) $ free1 ! $ move ! (20 ∷ 21 ∷ []) $ free1 ! $ move ! (18 ∷ 19 ∷ []) $ free1 ! $ move ! (0 ∷ 17 ∷ []) $ free1 ! $
+        -- [0 the slices' tokens; 1 `out`'s last list; 2 _15; 4 _14; 6 _13; 8 _12; 10 _11; 12 _10; 14 _9; 16 Rest]
+        move ! (14 ∷ 15 ∷ []) $ free1 ! $ move ! (12 ∷ 13 ∷ []) $ free1 ! $ move ! (10 ∷ 11 ∷ []) $ free1 ! $ move ! (8 ∷ 9 ∷ []) $ free1 ! $ move ! (6 ∷ 7 ∷ []) $ free1 ! $ move ! (4 ∷ 5 ∷ []) $ free1 ! $ move ! (2 ∷ 3 ∷ []) $ free1 ! $ free0 ! $
+        by ! (exits (put-together n (back count xs (ls .0))) (ls .1 .1 .0) (e .1, λ i. put-together (e .2 i) (back count xs (e .0 i))) len was gc gl (together-is n (back count xs (ls .0)) is gis))))))))))))))))))))))))))))
 
 module _ {M : Type 1} (𝓤 : URA M) (H : Heap 𝓤) (A : Atoms 𝓤) (W : Given 𝓤 H A) (at-mem : Memory → SProp 𝓤) (run : Routine → Fun 𝓤) where
   through-walks : (C : Calls 𝓤 H) (Λ : Loops 𝓤 H) → FmC 𝓤 H (W .laws) C → Triple 𝓤 (C #bench·lane-finish) (Lane 𝓤 H A at-mem run) → Walks 𝓤 H A f.ended stayed (WpFn 𝓤 H C Λ code.function) (f.clauses 𝓤 H A at-mem run)

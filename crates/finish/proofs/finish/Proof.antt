@@ -28,7 +28,7 @@ digest-requires c κs = search needs
 returns : tie.Need-returns
 unfolding finished
 returns c =
-    let l = c .before .before .before in
+    let l = c .before .before .before .before in
     let r = l .before .before .before in
     rw (
       tested (r .finish-refusal .ensures) (l .before .before .is-nothing .ensures) (l .before .if1 .taken),

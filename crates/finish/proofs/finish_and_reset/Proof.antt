@@ -33,7 +33,7 @@ slice-aggregate-store c = search needs
 store-requires : tie.Need-store-requires
 store-requires c κs =
     let g = c .before .before in
-    let i = g .before .before .before in
+    let i = g .before .before .before .before in
     let d = ap length (g .digest .ensures) ∙ digest-length _ in
     let s = finish-finishing _ _ _ (nothing-is _ (tested (i .before .before .finish-refusal .ensures) (i .before .is-nothing .ensures) (i .if1 .taken))) .sized in
     (omega arith, omega arith)
@@ -51,7 +51,7 @@ returns : tie.Need-returns
 unfolding finishedReset writtenOut
 returns c =
     let s = c .before .before .before .before in
-    let l = s .before .before .before .before .before in
+    let l = s .before .before .before .before .before .before in
     let r = l .before .before .before in
     let n = tested (r .finish-refusal .ensures) (l .before .before .is-nothing .ensures) (l .before .if1 .taken) in
     let g = s .before .before .before in

@@ -23,20 +23,16 @@ returns-3 c =
     let b = c .before .before in
     rw (le-leb _ _ (b .before .before .if1 .left), le-leb _ _ (b .if2 .left), sym (c .before .zero-from .ensures) ∙ not-true _ (c .if3 .taken))
 
+mark-fits-requires : tie.Need-mark-fits-requires
+mark-fits-requires c κs = search needs
+
 returns-4 : tie.Need-returns-4
 unfolding wellFormed
 returns-4 c =
-    let z = c .before in
+    let z = c .before .before in
     let b = z .before .before in
-    rw (le-leb _ _ (b .before .before .if1 .left), le-leb _ _ (b .if2 .left), sym (z .before .zero-from .ensures) ∙ not-false _ (z .if3 .left), c .if4 .taken)
-
-returns-5 : tie.Need-returns-5
-unfolding wellFormed
-returns-5 c =
-    let z = c .before in
-    let b = z .before .before in
-    rw (le-leb _ _ (b .before .before .if1 .left), le-leb _ _ (b .if2 .left), sym (z .before .zero-from .ensures) ∙ not-false _ (z .if3 .left), c .if4 .left)
+    rw (le-leb _ _ (b .before .before .if1 .left), le-leb _ _ (b .if2 .left), sym (z .before .zero-from .ensures) ∙ not-false _ (z .if3 .left)) (c .mark-fits .ensures)
 
 pub well-formed-spec : {M : Type 1} → statement M
 well-formed-spec =
-    tie.close (tie.spec returns returns-2 zero-from-requires returns-3 returns-4 returns-5)
+    tie.close (tie.spec returns returns-2 zero-from-requires returns-3 mark-fits-requires returns-4)

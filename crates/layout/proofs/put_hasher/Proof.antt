@@ -16,8 +16,8 @@ bit-of-requires c κs = search needs
 flags-number-requires : tie.Need-flags-number-requires
 flags-number-requires c κs = search needs
 
-put-four-requires : tie.Need-put-four-requires
-put-four-requires c κs = search needs
+put-six-requires : tie.Need-put-six-requires
+put-six-requires c κs = search needs
 
 same-length : tie.Need-same-length
 same-length c = search needs
@@ -36,7 +36,7 @@ returns c =
     let s2 = s1 .before in
     let s3 = s2 .before .before .before .before in
     let s4 = s3 .before .before .before .before in
-    (s4 .put-words .ensures, s3 .put-pending .ensures, rw (s0 .put-four .ensures, s1 .flags-number .ensures, s2 .bit-of .ensures))
+    (s4 .put-words .ensures, s3 .put-pending .ensures, rw (s0 .put-six .ensures, s1 .flags-number .ensures, s2 .bit-of .ensures))
 
 pub put-hasher-spec : {M : Type 1} → statement M
 put-hasher-spec =
@@ -46,7 +46,7 @@ put-hasher-spec =
     put-pending-requires
     bit-of-requires
     flags-number-requires
-    put-four-requires
+    put-six-requires
     same-length
     same-length-2
     same-length-3

@@ -17,16 +17,16 @@ returns c = refused (c .before .hasher-fits .ensures) (c .if1 .taken) _ _
 hasher-in-requires : tie.Need-hasher-in-requires
 hasher-in-requires c κs =
     let a = c .before .before .before .before .before .before .before .before .before .before .args in
-    lengths (length (a .words .now)) (length (a .pending .now)) (a .state .now) (length (a .answer .now)) (c .before .hasher-fits .ensures) (c .if1 .left) .0
+    lengths (length (a .words .now)) (length (a .pending .now)) (a .state .now) (length (a .answer .now)) 4 (c .before .hasher-fits .ensures) (c .if1 .left) .0
 
 finish-and-reset-requires : tie.Need-finish-and-reset-requires
 finish-and-reset-requires c κs = search needs
 
 put-outcome-requires : tie.Need-put-outcome-requires
 put-outcome-requires c κs =
-    let g = c .before .before .before .before .before .before in
+    let g = c .before .before .before .before .before .before .before in
     let a = g .before .before .before .before .before .before .before .before .before .before .args in
-    lengths (length (a .words .now)) (length (a .pending .now)) (a .state .now) (length (a .answer .now)) (g .before .hasher-fits .ensures) (g .if1 .left) .1
+    lengths (length (a .words .now)) (length (a .pending .now)) (a .state .now) (length (a .answer .now)) 4 (g .before .hasher-fits .ensures) (g .if1 .left) .1
 
 same-length : tie.Need-same-length
 same-length c = search needs
@@ -38,7 +38,7 @@ returns-2 : tie.Need-returns-2
 unfolding finishCall
 returns-2 c =
     let p = c .before .before in
-    let f = p .before .before .before .before in
+    let f = p .before .before .before .before .before in
     let h = f .before .before in
     let g = h .before in
     done (g .before .hasher-fits .ensures) (g .if1 .left)

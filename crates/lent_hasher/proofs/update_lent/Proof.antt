@@ -21,7 +21,7 @@ hasher-in-requires : tie.Need-hasher-in-requires
 hasher-in-requires c κs =
     let g = c .before .before .before in
     let a = g .before .before .before .before .before .before .before .before .before .before .before .args in
-    lengths (length (a .words .now)) (length (a .pending .now)) (a .state .now) (length (a .answer .now)) (g .before .hasher-fits .ensures) (g .if1 .left) .0
+    lengths (length (a .words .now)) (length (a .pending .now)) (a .state .now) (length (a .answer .now)) 2 (g .before .hasher-fits .ensures) (g .if1 .left) .0
 
 update-requires : tie.Need-update-requires
 update-requires c κs = search needs
@@ -30,7 +30,7 @@ leave-updated-requires : tie.Need-leave-updated-requires
 leave-updated-requires c κs =
     let g = c .before .before .before .before .before .before .before .before .before in
     let a = g .before .before .before .before .before .before .before .before .before .before .before .args in
-    lengths (length (a .words .now)) (length (a .pending .now)) (a .state .now) (length (a .answer .now)) (g .before .hasher-fits .ensures) (g .if1 .left)
+    lengths (length (a .words .now)) (length (a .pending .now)) (a .state .now) (length (a .answer .now)) 2 (g .before .hasher-fits .ensures) (g .if1 .left)
 
 same-length-2 : tie.Need-same-length-2
 same-length-2 c = search needs

@@ -18,7 +18,7 @@ one-shot-requires c κs = search needs
 
 leave-digest-requires : tie.Need-leave-digest-requires
 leave-digest-requires c κs =
-    let g = c .before .before .before .before in
+    let g = c .before .before .before .before .before in
     let f = fit _ _ (g .before .digest-fits .ensures) (g .if1 .left) in
     (eqb-true _ _ (f .0), eqb-true _ _ (f .1))
 
@@ -32,7 +32,7 @@ returns-2 : tie.Need-returns-2
 unfolding oneShotCall
 returns-2 c =
     let p = c .before .before .before .before in
-    let s = p .before .before .before .before in
+    let s = p .before .before .before .before .before in
     done (s .before .before .digest-fits .ensures) (s .before .if1 .left) (rw (p .leave-digest .ensures, s .one-shot .ensures)) _
 
 pub one-shot-lent-spec : {M : Type 1} → statement M

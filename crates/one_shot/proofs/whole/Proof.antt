@@ -6,7 +6,7 @@ use Rattle.loan.proofs.Loans.{accepted-conditions}
 use Rattle.update.proofs.Absorbed.{flags-after}
 use Rattle.finish.proofs.Finishing.{tested}
 use Rattle.one_shot.specs.Whole.{wholeOf}
-use Rattle.one_shot.proofs.Fed.{Whole, refusal-whole, whole-ready, fed-formed, fed-chain}
+use Rattle.one_shot.proofs.Fed.{Whole, refusal-whole, whole-vectors, whole-ready, fed-formed, fed-chain}
 use borrow.Author.Needs.{needs}
 use Rattle.one_shot.proofs.whole.Statement.{statement}
 use Rattle.one_shot.proofs.whole.Tie as tie
@@ -37,7 +37,7 @@ last-chain-requires : tie.Need-last-chain-requires
 last-chain-requires c κs =
     let b = c .before in
     let p = passed (b .before .before) in
-    rw (b .absorb .ensures, b .before .new .ensures) (fed-formed _ _ _ (p .short), rw (flags-after _ _ _) (accepted-conditions _ _ _ (p .loan)))
+    rw (b .absorb .ensures, b .before .new .ensures) (fed-formed _ _ _ (p .short) (whole-vectors _ _ _ p), rw (flags-after _ _ _) (accepted-conditions _ _ _ (p .loan)))
 
 verdict-of-requires : tie.Need-verdict-of-requires
 verdict-of-requires c κs = search needs
@@ -48,7 +48,7 @@ digest-requires c κs = search needs
 returns : tie.Need-returns
 unfolding wholeOf
 returns c =
-    let l = c .before .before in
+    let l = c .before .before .before in
     let b = l .before .before in
     let n = b .before in
     let i = n .before in

@@ -7,16 +7,23 @@ use Rattle.stream.proofs.checked.Tie as tie
 compress-requires : tie.Need-compress-requires
 compress-requires c κs = search needs
 
+first-after-requires : tie.Need-first-after-requires
+first-after-requires c κs = search needs
+
 add-blocks : tie.Need-add-blocks
 add-blocks c = search needs
 
 returns : tie.Need-returns
 unfolding checkedOf
-returns c = rw (c .before .before .before .compress .ensures, c .if1 .taken)
+returns c =
+    let f = c .before in
+    rw (f .first-after .ensures, f .before .before .before .compress .ensures, c .if1 .taken)
 
 returns-2 : tie.Need-returns-2
 unfolding checkedOf
-returns-2 c = rw (c .before .before .before .compress .ensures, c .if1 .left)
+returns-2 c =
+    let f = c .before in
+    rw (f .first-after .ensures, f .before .before .before .compress .ensures, c .if1 .left)
 
 pub checked-spec : {M : Type 1} → statement M
-checked-spec = tie.close (tie.spec compress-requires add-blocks returns returns-2)
+checked-spec = tie.close (tie.spec compress-requires first-after-requires add-blocks returns returns-2)

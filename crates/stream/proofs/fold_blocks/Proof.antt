@@ -25,12 +25,12 @@ returns c =
 hash-blocks-requires : tie.Need-hash-blocks-requires
 hash-blocks-requires c κs = search needs
 
-add-t15 : tie.Need-add-t15
-add-t15 c = search needs
+add-t16 : tie.Need-add-t16
+add-t16 c = search needs
 
 returns-2 : tie.Need-returns-2
 unfolding folded
-returns-2 c = rw (c .before .before .if1 .left, c .before .hash-blocks .ensures, chained-plain)
+returns-2 c = rw (c .before .before .before .if1 .left, c .before .hash-blocks .ensures, chained-plain)
 
 pub fold-blocks-spec : {M : Type 1} → statement M
 fold-blocks-spec =
@@ -41,5 +41,5 @@ fold-blocks-spec =
     fold-checked-requires
     returns
     hash-blocks-requires
-    add-t15
+    add-t16
     returns-2)

@@ -36,19 +36,37 @@ returns-3 c =
       sym (c .before .same-flags .ensures) ∙ not-true _ (c .if3 .taken),
     )
 
-same-counts-requires : tie.Need-same-counts-requires
-same-counts-requires c κs = search needs
+same-first-requires : tie.Need-same-first-requires
+same-first-requires c κs = search needs
 
 returns-4 : tie.Need-returns-4
 unfolding sameHasher
 returns-4 c =
-    let f = c .before in
+    let f = c .before .before in
     let g = f .before .before in
     let h = g .before .before .before .before in
     rw (
       sym (h .before .same-words .ensures) ∙ not-false _ (h .if1 .left),
       sym (g .before .same-pending .ensures) ∙ not-false _ (g .if2 .left),
       sym (f .before .same-flags .ensures) ∙ not-false _ (f .if3 .left),
+      sym (c .before .same-first .ensures) ∙ not-true _ (c .if4 .taken),
+    )
+
+same-counts-requires : tie.Need-same-counts-requires
+same-counts-requires c κs = search needs
+
+returns-5 : tie.Need-returns-5
+unfolding sameHasher
+returns-5 c =
+    let e = c .before in
+    let f = e .before .before in
+    let g = f .before .before in
+    let h = g .before .before .before .before in
+    rw (
+      sym (h .before .same-words .ensures) ∙ not-false _ (h .if1 .left),
+      sym (g .before .same-pending .ensures) ∙ not-false _ (g .if2 .left),
+      sym (f .before .same-flags .ensures) ∙ not-false _ (f .if3 .left),
+      sym (e .before .same-first .ensures) ∙ not-false _ (e .if4 .left),
       c .same-counts .ensures,
     )
 
@@ -62,5 +80,7 @@ same-hasher-spec =
     returns-2
     same-flags-requires
     returns-3
+    same-first-requires
+    returns-4
     same-counts-requires
-    returns-4)
+    returns-5)

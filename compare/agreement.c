@@ -11,7 +11,7 @@ static struct lent {
     uint32_t words[6], after[6], table[82], conditions[12], mask[1], verdict;
     uint64_t flags, state[7], answer[5];
     uint8_t pending[65], bytes[1], digest[21], block[64], sheet[32], code[12];
-    size_t five, five_after, sixty_four, six, twenty, two, four, condition_words;
+    size_t five, five_after, sixty_four, six, twenty, two, four, condition_words, byte_count, mask_count;
 } m;
 
 static void fresh(void)
@@ -27,6 +27,7 @@ static void fresh(void)
     m.two = 2;
     m.four = 4;
     m.condition_words = 12; /* two conditions that hold and drop nothing */
+    m.byte_count = 64; /* a whole block, so that an update looks at all that it is lent */
 }
 
 #define HASHER m.words, m.five, m.pending, m.sixty_four, m.state, m.six
@@ -41,7 +42,10 @@ static uint32_t one_block(void)
     return purserumble_one_block(m.words, m.five, m.block, 64, TABLE, 1, 1, 0, m.after, m.five_after, LONG_ANSWER);
 }
 static uint32_t new_hasher(void) { return purserumble_new(m.flags, HASHER); }
-static uint32_t update(void) { return purserumble_update(HASHER, m.bytes, 1, TABLE, CONDITIONS, NO_MASKS, ANSWER); }
+static uint32_t update(void)
+{
+    return purserumble_update(HASHER, m.block, m.byte_count, TABLE, CONDITIONS, m.mask, m.mask_count, ANSWER);
+}
 static uint32_t reset(void) { return purserumble_reset(HASHER, ANSWER); }
 static uint32_t finish(void) { return purserumble_finish(HASHER, m.digest, m.twenty, TABLE, CONDITIONS, NO_MASKS, LONG_ANSWER); }
 static uint32_t finish_and_reset(void)
@@ -256,6 +260,32 @@ static void conditions(void)
     }
 }
 
+/* An update that fills no block is refused neither by its table nor by its conditions, but by a mask where masks are lent; one byte
+ * more, and it is refused by them. */
+static void short_updates(void)
+{
+    static const struct { uint64_t flags; uint32_t number; } settings[] = { { 1, 3 }, { 5, 3 }, { 17, 12 } };
+    for (size_t i = 0; i < 3; i++)
+        for (size_t fill = 0; fill < 64; fill++) {
+            const int lent = settings[i].flags == 5;
+            filled();
+            m.state[0] = fill;
+            m.state[3] = settings[i].flags;
+            m.table[0] = 32;
+            m.condition_words = 11;
+            m.byte_count = 63 - fill;
+            m.mask_count = 1;
+            if (lent) refused("update of no block", update, 6);
+            m.mask_count = 0;
+            expect("update of no block", update(), 0);
+            expect("the fill after it", m.state[0], 63);
+            m.byte_count = 1;
+            if (lent) refused("update of a block", update, 6);
+            m.mask_count = lent;
+            refused("update of a block", update, settings[i].number);
+        }
+}
+
 /* A sheet of one record, of zeros: each verdict with its digest, with another, and with another barcode. */
 static void answers(void)
 {
@@ -296,6 +326,10 @@ static void structs(void)
     expect("hasher_finish_and_reset", purserumble_hasher_finish_and_reset(&h, m.digest, NULL, m.answer), 0);
     expect("hasher_finish_and_reset's digest", memcmp(m.digest, of_nothing, 20) != 0, 1);
     expect("hasher_reset", purserumble_hasher_reset(&h), 0);
+    expect("hasher_new", purserumble_hasher_new(&h, PURSERUMBLE_DETECT), 0);
+    expect("hasher_update", purserumble_hasher_update(&h, "x", 1, NULL, m.answer), 0);
+    expect("hasher_update", purserumble_hasher_update(&h, m.block, 63, NULL, m.answer), 2);
+    expect("hasher_finish", purserumble_hasher_finish(&h, m.digest, NULL, m.answer), 2);
     expect("message_digest", purserumble_message_digest(NULL, 0, m.digest, &loan, m.answer), 6);
     expect("block_words", purserumble_block_words(h.words, m.block, NULL, 1, 1, 0, m.after, m.answer), 2);
     expect("block_words", purserumble_block_words(h.words, m.block, &loan, 1, 1, 0, m.after, m.answer), 0);
@@ -423,6 +457,7 @@ int main(void)
     answers();
     structs();
     conditions();
+    short_updates();
     selected();
     unfit();
     first_marks();

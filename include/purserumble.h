@@ -53,7 +53,8 @@ enum { PURSERUMBLE_ANSWER_VERDICT = 0, PURSERUMBLE_ANSWER_REFUSED_PLACE = 1, PUR
  *            conditions, 0 for other numbers. A finish, and a whole message in one call, have two numbers more: the number
  *            of the message's first marked block and the place of the vector that marked it, both 0 where none was (the
  *            verdict says so) and on refusal. Padding blocks count: the number may be `blocks` or one above it
- * table, conditions and masks are looked at only where the flags ask for them; what is not looked at may be anything.
+ * table, conditions and masks are looked at only where the flags ask for them, and the first two by an update only where it
+ * compresses a block; what is not looked at may be anything.
  */
 
 /* after (5): the new chaining words. answer (4): mark, place, tried, the refused record's place. */
@@ -65,7 +66,8 @@ uint32_t purserumble_one_block(const uint32_t *words, size_t five, const uint8_t
 uint32_t purserumble_new(uint64_t flags, uint32_t *words, size_t five, uint8_t *pending, size_t sixty_four,
     uint64_t *state, size_t six);
 
-/* answer (2): 0, the refused record's place. */
+/* answer (2): 0, the refused record's place. It compresses a block where fill and `bytes_len` together are 64 or more. Below that it
+ * refuses nothing of table and conditions, and must be lent no mask: else it gives 6 where masks are looked at. */
 uint32_t purserumble_update(uint32_t *words, size_t five, uint8_t *pending, size_t sixty_four,
     uint64_t *state, size_t six, const uint8_t *bytes, size_t bytes_len, const uint32_t *table, size_t table_len,
     const uint32_t *conditions, size_t conditions_len, const uint32_t *masks, size_t masks_len, uint64_t *answer, size_t two);
@@ -146,7 +148,8 @@ static inline uint32_t purserumble_hasher_new(struct purserumble_hasher *h, uint
     return purserumble_new(flags, h->words, 5, h->pending, 64, h->state, 6);
 }
 
-/* A piece of the message. answer: 0, the refused record's place. */
+/* A piece of the message. answer: 0, the refused record's place. What is wrong with the loan's table or conditions shows at the first
+ * piece that fills a block, or at the finish; purserumble_loan_fault and purserumble_loan_condition_fault tell it before. */
 static inline uint32_t purserumble_hasher_update(struct purserumble_hasher *h, const void *bytes, size_t bytes_len,
     const struct purserumble_loan *loan, uint64_t answer[2])
 {

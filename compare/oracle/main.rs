@@ -106,12 +106,11 @@ impl Tables {
     fn conditions(&self, slot: u32) -> Option<&[u32]> {
         self.conditions.get(&slot).expect("no such conditions").as_deref()
     }
-    /// Whether table, conditions and masks suit a call with these flags that compresses so many blocks.
+    /// Whether table, conditions and masks suit a call with these flags that compresses so many blocks. With no block the Rust
+    /// comes to none of them, but for a mask too many there is a refusal still.
     fn suit(&self, s: &State, call: &Call, blocks: u64) -> bool {
-        !s.detect
-            || (self.good(call.slot)
-                && (!s.lent || call.masks.len() as u64 == blocks)
-                && (!s.conditions || self.conditions(call.conditions).is_some()))
+        let there = || self.good(call.slot) && (!s.conditions || self.conditions(call.conditions).is_some());
+        !s.detect || ((!s.lent || call.masks.len() as u64 == blocks) && (blocks == 0 || there()))
     }
 }
 

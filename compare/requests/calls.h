@@ -265,12 +265,14 @@ static void begin_fresh(int flags)
 
 static void end(void) { write_record(file, SESSION, &o); }
 
-static int accepted(int slot, int right)
+/* Whether a call that compresses so many blocks is lent what it may be. */
+static int accepted(int slot, int right, uint64_t blocks)
 {
     if (held.malformed) return 0;
     if (!(held.flags & DETECT)) return 1;
-    if ((held.flags & CONDITIONS) && !held_conditions(lent_conditions)->good) return 0;
-    return pool[slot].good && (right || !(held.flags & LENT));
+    if ((held.flags & LENT) && !right) return 0;
+    if (blocks == 0) return 1;
+    return pool[slot].good && (!(held.flags & CONDITIONS) || held_conditions(lent_conditions)->good);
 }
 
 /* A call's kind and the tables that it is lent. */
@@ -283,12 +285,12 @@ static void call(int what, int slot)
 
 static void update(int slot, const uint8_t *bytes, size_t len, const uint32_t *same, int wrong)
 {
-    uint64_t most = ((uint64_t)1 << 61) - 1;
+    uint64_t most = ((uint64_t)1 << 61) - 1, blocks = held.fill > 63 ? 0 : (held.fill + len) / 64;
     call(UPDATE, slot);
     put_bytes(&o, bytes, len);
-    int right = lend_masks(slot, held.fill > 63 ? 0 : (held.fill + len) / 64, same, wrong);
-    if (accepted(slot, right) && len <= most - (held.blocks * 64 + held.fill)) {
-        held.blocks += (held.fill + len) / 64;
+    int right = lend_masks(slot, blocks, same, wrong);
+    if (accepted(slot, right, blocks) && len <= most - (held.blocks * 64 + held.fill)) {
+        held.blocks += blocks;
         held.fill = (held.fill + len) % 64;
     }
 }
@@ -311,7 +313,7 @@ static void finish_and_reset(int slot, const uint32_t *same, int wrong, size_t o
     int right = lend_masks(slot, held.fill <= 55 ? 1 : 2, same, wrong);
     put(&o, out_len, 4);
     put(&o, filled, 1);
-    if (accepted(slot, right) && out_len == 20) held.fill = held.blocks = 0;
+    if (accepted(slot, right, 1) && out_len == 20) held.fill = held.blocks = 0;
 }
 
 /* ---- One-shot ---- */

@@ -20,6 +20,16 @@ static void conditioned(int flags, const uint8_t *block)
     end();
 }
 
+/* A block in two pieces: the first fills none, so that nothing lent to it can be wrong. */
+static void in_two(int flags, int slot, const uint8_t *block)
+{
+    begin_fresh(flags);
+    update(slot, block, 20, NULL, 0);
+    update(slot, block + 20, 44, NULL, 0);
+    finish(slot, NULL, 0);
+    end();
+}
+
 /* Conditions checked, and lent where they are looked at and where they are not. */
 static void try_conditions(const uint32_t *w, size_t len, int good)
 {
@@ -29,6 +39,7 @@ static void try_conditions(const uint32_t *w, size_t len, int good)
     conditioned(DETECT | CONDITIONS, block);
     conditioned(MITIGATE | CONDITIONS, block);
     conditioned(DETECT | LENT, block);
+    in_two(DETECT | CONDITIONS, CONTROL, block);
 }
 
 /* Two slots for the order of refusals: a length, and a condition after the first. */

@@ -218,14 +218,101 @@ static void orders(void)
     }
 }
 
+enum { SPOILT = 6 };
+
+/* The crate's own table with something wrong in the first record, the last or one between, too short, too long, or empty. */
+static void spoilt_tables(void)
+{
+    static const struct { size_t at; uint32_t more; size_t len; } ways[SPOILT] = {
+        { RECORD * 7, 32, RECORD * MOST }, { RECORD * 31 + 1, 1, RECORD * MOST }, { RECORD - 1, 1, RECORD * MOST },
+        { 0, 0, RECORD * MOST - 1 }, { 0, 0, RECORD * (MOST + 1) }, { 0, 0, 0 } };
+    for (int i = 0; i < SPOILT; i++) {
+        pool[BAD + i] = pool[REAL];
+        pool[BAD + i].good = 0;
+        pool[BAD + i].w[ways[i].at] += ways[i].more;
+        pool[BAD + i].len = ways[i].len;
+        send_table(BAD + i);
+    }
+}
+
+/* Updates up to a byte before a block is full, which take any table and any conditions but no mask; then the byte that fills it, and
+ * the ends, also with nothing pending. */
+static void short_of_a_block(int flags, int fill, int slot, int conditions)
+{
+    uint32_t words[5];
+    uint8_t pending[64] = { 0 };
+    int mark = (flags & DETECT) && one_in(4), part = (63 - fill) / 3;
+    some_words(words);
+    fill_by_chance(pending, fill);
+    begin(words, pending, fill, 1 + below(9), mark, flags);
+    lent_conditions = conditions;
+    update(slot, NULL, 0, NULL, 0);
+    update(slot, NULL, 0, NULL, 1);
+    update(slot, pattern, part, NULL, 0);
+    update(slot, pattern + part, 63 - fill - part, NULL, 1);
+    update(slot, pattern + part, 63 - held.fill, NULL, 0);
+    update(slot, NULL, 0, NULL, 0);
+    update(slot, pattern + 63, 1, NULL, -1);
+    update(slot, pattern + 63, 1, NULL, 0);
+    finish(slot, NULL, 0);
+    finish_and_reset(slot, NULL, 0, 20, 0x6b);
+    lent_conditions = NONE;
+    update(CONTROL, pattern + 63, 1 + (63 - held.fill), NULL, 0);
+    lent_conditions = conditions;
+    finish(slot, NULL, 0);
+    finish_and_reset(slot, NULL, 0, 20, 0x6c);
+    reset();
+    update(slot, pattern, 20, NULL, 0);
+    update(slot, pattern + 20, 44, NULL, 0);
+    finish(slot, NULL, 0);
+    end();
+}
+
+/* A message in one piece, and cut in two everywhere, with what is refused. */
+static void refused_cuts(int flags, int slot, int conditions)
+{
+    lent_conditions = conditions;
+    for (int n = 64; n <= 130; n += 22)
+        for (int cut = 0; cut <= n; cut++) {
+            begin_fresh(flags);
+            update(slot, pattern, n, NULL, 0);
+            update(slot, pattern, cut, NULL, 0);
+            update(slot, pattern + cut, n - cut, NULL, 0);
+            finish(slot, NULL, 0);
+            end();
+        }
+}
+
+/* Every fill in every setting, with each spoilt table and a good one, and conditions that are refused by 12, by 13 or not. */
+static void short_updates(void)
+{
+    static const int settings[3] = { 0, LENT, CONDITIONS };
+    seed = 13;
+    spoilt_tables();
+    two_unfit();
+    for (int s = 0; s < 3; s++)
+        for (int way = 0; way <= SPOILT; way++)
+            for (int unfit = 0; unfit < 3; unfit++) {
+                int slot = way < SPOILT ? BAD + way : REAL, conditions = unfit < 2 ? UNFIT + unfit : NONE;
+                for (int fill = 0; fill < 64; fill++)
+                    for (int off = 0; off < 2; off++) {
+                        int mode = (fill % 2 ? MITIGATE : 0) | (fill % 4 > 1 ? REDUCED : 0);
+                        short_of_a_block(settings[s] | mode | (off ? 0 : DETECT), fill, slot, conditions);
+                    }
+                refused_cuts(DETECT | settings[s], slot, conditions);
+            }
+    lent_conditions = NONE;
+}
+
 static const uint32_t ones[5] = { 1, 1, 1, 1, 1 };
 
-/* A table checked, and lent with a block. */
+/* A table checked, lent with a block, and lent to updates. */
 static void try_table(const uint32_t *w, size_t len)
 {
     send_words(BAD, w, len);
     table_check(BAD);
     send_block(ones, BAD, all, 0, pattern, 64);
+    in_two(DETECT, BAD, pattern);
 }
 
 /* Three good records, with each word damaged in turn, and each length of their words; then the largest tables. */
@@ -507,6 +594,7 @@ static void fixed_requests(const char *data)
     first_forms();
     longest();
     orders();
+    short_updates();
     damaged_tables();
     record_heads();
     pairs_of_faults();

@@ -212,6 +212,13 @@ static void some_pair(void)
 
 /* ---- Sessions ---- */
 
+/* Conditions that are refused, and a table that is. */
+static int some_refused(void)
+{
+    lent_conditions = UNFIT + below(SLOTS_END - UNFIT);
+    return BAD + below(SLOTS - BAD);
+}
+
 static size_t some_length(void)
 {
     size_t blocks = 64 * below(5);
@@ -220,6 +227,7 @@ static size_t some_length(void)
     case 1: case 2: return blocks + (uint64_t[]){ 0, 1, 54, 55, 56, 57, 62, 63 }[below(8)];
     case 3: return 64 - held.fill % 64; /* just full */
     case 4: return one_in(8) ? below(2000) : below(400);
+    case 5: return 20;
     default: return below(100);
     }
 }
@@ -278,6 +286,7 @@ static void some_session(void)
                 fill_by_chance(bytes, n);
                 other = one_in(10) ? some_slot() : slot;
                 lent_conditions = one_in(10) ? some_conditions_slot() : conditions;
+                if (held.fill + n < 64 && one_in(3)) other = some_refused(); /* no block, so it may be lent anything */
                 update(other, bytes, n, same, one_in(16) ? (one_in(2) ? 1 : -1) : 0);
             }
         }

@@ -270,12 +270,14 @@ static void feed(struct hasher *h, const uint8_t *bytes, size_t len, struct loan
 
 static uint64_t bytes_so_far(const struct hasher *h) { return h->blocks * 64 + h->fill; }
 
-/* What is refused of a loan for a call that compresses so many blocks: masks or conditions, then the table. */
+/* What is refused of a loan for a call that compresses so many blocks: masks or conditions, then the table. A call that
+ * compresses none may be lent any table and any conditions, but no mask. */
 static uint32_t lent_refusal(const struct hasher *h, uint64_t blocks, const struct loan *lent, uint64_t *place)
 {
     uint32_t refusal = 0;
     *place = 0;
     if (lends(h) && lent->masks_len != blocks) return 6;
+    if (blocks == 0) return 0;
     if (conditional(h)) refusal = condition_fault(lent->conditions, lent->conditions_len, place);
     if (refusal) return refusal;
     if (detects(h)) return table_fault(lent->table, lent->table_len, place);

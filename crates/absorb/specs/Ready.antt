@@ -10,9 +10,9 @@ use Rattle.loan.specs.Loan.{conditionsFor}
 use Rattle.hasher.specs.Hasher.{allZero, taken}
 use Rattle.hasher.specs.declared.Hasher.{Hasher}
 
--- the hasher is well formed, the message stays short enough, and the conditions that are looked at are good
+-- the hasher is well formed, the message stays short enough, and where a block is filled the conditions that are looked at are good
 pub record Ready (h : Hasher) (bytes conditions : List ℕ) : Type 0 where
   pub fill-le : h .fill ≤ 63
   pub zeros : allZero (drop (h .fill) (h .pending)) ≡ true
   pub fits : taken h + length bytes ≤ mostBytes
-  pub selects : GoodConditions (conditionsFor (h .flags) conditions)
+  pub selects : 64 ≤ h .fill + length bytes → GoodConditions (conditionsFor (h .flags) conditions)

@@ -42,22 +42,22 @@ pub fn absorb(h: Hasher, bytes: &[u8], table: &[u32], conditions: &[u32], masks:
     let fill = h.fill;
     let flags = h.flags;
     let c = h.chain();
-    if fill == 0 {
-        return advance(flags, table, conditions, c, bytes, masks);
-    }
     let mut pending = h.pending;
     let room = 64 - fill;
     if bytes.len() < room {
         store(&mut pending, fill, bytes, bytes.len());
         return Hasher::at(flags, c, pending, fill + bytes.len());
     }
+    if fill == 0 {
+        return advance(flags, table, conditions, c, bytes, masks);
+    }
     store(&mut pending, fill, bytes, room);
-    let first = fold_blocks(flags, table, conditions, c, &pending, masks);
+    let filled = fold_blocks(flags, table, conditions, c, &pending, masks);
     advance(
         flags,
         table,
         conditions,
-        first,
+        filled,
         &bytes[room..],
         masks_from(masks, 1),
     )

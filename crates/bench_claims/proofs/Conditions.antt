@@ -1,5 +1,6 @@
--- Conditions as part of a lane call, 02's request d: 12 and 13 exactly when, behind 10; demand 3 with "selected" by the surviving bits, for each
--- call and for a lane's message; that what is not looked at changes nothing; and that both settings agree on lanes too. Assumes nothing.
+-- Conditions as part of a lane call, 02's request d: 12 and 13 exactly when, behind 10, and an update's 2 to 5 behind them; demand 3 with "selected" by
+-- the surviving bits, for each call and for a lane's message; that what is not looked at changes nothing; and that both settings agree on lanes too.
+-- Assumes nothing.
 use mathlib.Core.Path.{_≡_, refl, sym, _∙_, subst}
 use mathlib.Core.Logic.{_↔_, Iff·rfl, Iff·trans, Iff·and}
 use mathlib.Core.Bool.{true, false}
@@ -8,17 +9,18 @@ use Prim.Native.Nat.{ℕ, _+_, _≤_}
 use native.Mathlib.Omega.{arith}
 use lib.ListN.{length}
 use Rattle.word.specs.Lists.{AllBytes}
-use Rattle.refusal.specs.Refusal.{numberOf, conditionNumbers, oneOf}
+use Rattle.refusal.specs.Refusal.{numberOf, tableNumbers, conditionNumbers, oneOf}
 use Rattle.refusal.proofs.Numbers.{apart}
 use Rattle.verdict.specs.Verdict.{digestSize}
 use Rattle.fips.specs.Fips.{mostBytes, padded, initial}
 use Rattle.flags.specs.Flags.{usesConditions, withMasks}
 use Rattle.flags.specs.declared.Flags.{Flags}
 use Rattle.flags.specs.declared.Masks.the-variants.{Lent, Conditions}
-use Rattle.loan.specs.Loan.{Tables, Loan, lend, loanOf, ConditionsGive}
+use Rattle.loan.specs.Loan.{Tables, Loan, lend, loanOf, WellCounted, ConditionsGive, VectorsGive}
 use Rattle.hasher.specs.Hasher.{taken}
 use Rattle.hasher.specs.declared.Hasher.{Hasher}
 use Rattle.absorb.specs.Absorb.{streamOf}
+use Rattle.update.specs.Update.{blocksFilled}
 use Rattle.finish.specs.Finish.{outcomeNumber}
 use Rattle.finish.specs.declared.Outcome.{Outcome}
 use Rattle.bench.specs.Bench.{laneOf, onLane, laneUpdateRefusal, laneUpdated, laneOutcome, laneFirst, laneFinished, laneWritten}
@@ -28,7 +30,7 @@ use Rattle.claims.specs.Pieces.{Piece, bytesOf, pieceMasks, loanOfAll}
 use Rattle.claims.specs.EveryCall.{lastBlocks, VerdictBy}
 use Rattle.claims.specs.Selected.{OneMetBy, MarkedAfterBy}
 use Rattle.claims.specs.Settings.{messageMasks}
-use Rattle.claims.proofs.Refusals.{update-conditions, update-never-6, update-never-conditions, finish-reset-conditions, finish-reset-never-6, finish-reset-never-conditions}
+use Rattle.claims.proofs.Refusals.{update-table, update-conditions, update-never-6, update-never-conditions, finish-reset-conditions, finish-reset-never-6, finish-reset-never-conditions}
 use Rattle.claims.proofs.Selected.{update-selected, finish-reset-selected, message-selected}
 use Rattle.claims.proofs.Unseen.{update-unmasked, finish-reset-unmasked, output-unmasked, conditions-no-masks, update-unconditioned, finish-reset-unconditioned, output-unconditioned}
 use Rattle.claims.proofs.BothSettings.{message-surviving}
@@ -48,11 +50,21 @@ module _ (bench : List Hasher) (lane : ℕ) (l : Loan) where
   module _ (bytes : List ℕ) where
     pub lane-update-conditions : (n : ℕ) → oneOf conditionNumbers n ≡ true → (numberOf (laneUpdateRefusal bench lane bytes l) ≡ n)
         ↔ (LaneThere bench lane × (WellFormed (laneOf bench lane)
-        × ((taken (laneOf bench lane) + length bytes ≤ mostBytes) × ConditionsGive (laneOf bench lane .flags) (l .tables) n)))
+        × ((taken (laneOf bench lane) + length bytes ≤ mostBytes)
+        × ((1 ≤ blocksFilled (laneOf bench lane) (length bytes)) × ConditionsGive (laneOf bench lane .flags) (l .tables) n))))
     lane-update-conditions n i =
         Iff·trans (lane-update-line bench lane bytes l n (not-10 n i)) (Iff·and Iff·rfl (update-conditions (laneOf bench lane) bytes l n i))
 
-    -- 6 never where the lane looks at conditions, and 12 and 13 never where it does not
+    -- 2 to 5 likewise, behind them.
+    pub lane-update-table : (n : ℕ) → oneOf tableNumbers n ≡ true → (numberOf (laneUpdateRefusal bench lane bytes l) ≡ n)
+        ↔ (LaneThere bench lane × (WellFormed (laneOf bench lane)
+        × ((taken (laneOf bench lane) + length bytes ≤ mostBytes)
+        × (WellCounted (laneOf bench lane .flags) l (blocksFilled (laneOf bench lane) (length bytes))
+        × ((1 ≤ blocksFilled (laneOf bench lane) (length bytes)) × VectorsGive (laneOf bench lane .flags) (l .tables) n)))))
+    lane-update-table n t =
+        Iff·trans (lane-update-line bench lane bytes l n (λ e. apart tableNumbers 10 n t refl (sym e))) (Iff·and Iff·rfl (update-table (laneOf bench lane) bytes l n t))
+
+    -- 6 never where the lane's flags ask for conditions, and 12 and 13 never where they do not
     pub lane-update-never-6 : usesConditions (laneOf bench lane .flags) ≡ true → numberOf (laneUpdateRefusal bench lane bytes l) ≡ 6 → ⊥
     lane-update-never-6 u e =
         update-never-6 (laneOf bench lane) bytes l u (lane-update-line bench lane bytes l 6 (λ z. omega arith) .0 e .1)

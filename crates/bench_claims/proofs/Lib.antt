@@ -6,6 +6,7 @@ pub mod Order
 pub mod OwnMessage
 pub mod Demands
 pub mod Conditions
+pub mod Short
 pub mod Anywhere
 pub mod Several
 pub mod EveryCall

@@ -4,6 +4,7 @@ use mathlib.Core.List.{List, [], _∷_}
 use Prim.Native.Nat.{ℕ}
 use lib.Dec.{eqb}
 use Rattle.word.specs.Choice.{pick}
+use Rattle.refusal.specs.declared.Refusal.the-variants.{Nothing}
 use Rattle.flags.specs.declared.Flags.{Flags}
 use Rattle.loan.specs.Loan.{Tables, lend}
 use Rattle.stream.specs.declared.FirstMark.{FirstMark}
@@ -13,12 +14,17 @@ use Rattle.finish.specs.Finish.{outcomeNumber}
 use Rattle.finish.specs.declared.Outcome.{Outcome}
 use Rattle.bench.specs.Bench.{laneOf, laneOutcome, laneFirst, laneWritten}
 use Rattle.claims.specs.Pieces.{Piece}
-use Rattle.bench_claims.specs.Calls.{Call, updating, Response, responseNumber, LaneCall, runResponses, runBench, ownCalls, ownResponses, LaneThere}
+use Rattle.bench_claims.specs.Calls.{Call, updating, Response, ofRefusal, responseNumber, LaneCall, runResponses, runBench, ownCalls, ownResponses, LaneThere}
 
 -- an update for each piece, all with the same tables
 abbrev pub updatesWith : Tables → List Piece → List Call
 updatesWith t [] = []
 updatesWith t (p ∷ ps) = updating (p .bytes) (lend t (p .masks)) ∷ updatesWith t ps
+
+-- what they get where all are taken
+abbrev pub takenEach : List Piece → List Response
+takenEach [] = []
+takenEach (p ∷ ps) = ofRefusal Nothing ∷ takenEach ps
 
 -- those of some calls that were accepted, by what each of them got
 abbrev pub acceptedCalls : List Call → List Response → List Call

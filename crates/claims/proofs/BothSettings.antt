@@ -4,12 +4,12 @@ use mathlib.Core.Path.{_≡_, refl, sym, ap, _∙_}
 use mathlib.Core.Bool.{Bool, true, false, not, _&&_}
 use mathlib.Core.List.{List, [], _++_}
 use Prim.Native.Nat.{ℕ, zero, suc, _+_, _-_, _*_, _/_, _≤_}
-use native.Mathlib.Nat.{mod-eq-of-lt, min-le-left, min-comm}
+use native.Mathlib.Nat.{mod-eq-of-lt}
 use native.Mathlib.Omega.{arith}
 use borrow.Author.Tests.{eq-eqb, leb-true}
 use lib.Bits.{and-comm, and-mask}
 use lib.Dec.{eqb, leb}
-use lib.ListN.{length, take, drop, length-append, length-take}
+use lib.ListN.{length, take, drop, length-append}
 use Rattle.word.specs.Choice.{pick}
 use Rattle.refusal.specs.Refusal.{firstOf}
 use Rattle.refusal.specs.declared.Refusal.{Refusal}
@@ -45,7 +45,8 @@ use Rattle.claims.specs.Marked.{blocksIn}
 use Rattle.claims.specs.Settings.{masksOn, conditionsOn, survivingMasks, survivingBits, survivingBlocks, survivingLast, messageMasks}
 use Rattle.claims.proofs.Settings.{Alike, update-alike, finish-alike, finish-reset-alike, output-alike, whole-refusal-alike, whole-alike}
 use Rattle.claims.proofs.Padding.{blocks-counted}
-use Rattle.claims.proofs.Whole.{last-accepted}
+use Rattle.claims.proofs.Looked.{taken-most, stream-few}
+use Rattle.claims.proofs.Whole.{tables-pass}
 use Rattle.claims.proofs.OneShot.{whole-taken, whole-agrees, whole-cut}
 
 -- one mask for each of the n blocks
@@ -88,8 +89,8 @@ by-detection false mode table conditions masks m n c xs h = refl
 
 -- what is refused: neither a number of masks, nor conditions that pass
 refused-alike : (on : Bool) (fault vectors : Refusal) (j k n : ℕ) → k ≡ n → ((on && true) ≡ true → fault ≡ Nothing)
-    → pick ((on && false) && not (eqb j n)) MaskCount (firstOf (pick (on && true) fault Nothing) vectors)
-    ≡ pick ((on && true) && not (eqb k n)) MaskCount (firstOf (pick (on && false) fault Nothing) vectors)
+    → pick ((on && false) && not (eqb j n)) MaskCount (pick (eqb n 0) Nothing (firstOf (pick (on && true) fault Nothing) vectors))
+    ≡ pick ((on && true) && not (eqb k n)) MaskCount (pick (eqb n 0) Nothing (firstOf (pick (on && false) fault Nothing) vectors))
 refused-alike true fault vectors j k n e g = rw (eq-eqb k n e, g refl)
 refused-alike false fault vectors j k n e g = refl
 
@@ -105,17 +106,6 @@ survivors-alike l f n c xs few pass =
           (surviving-length conditions n xs) (λ u. accepted conditions .1 (pass u));
       folds = by-detection (f .detect) (modeOf f) (l .tables .vectors) conditions (l .masks) (length xs / 64) n c xs few;
     }
-
--- what is taken of a list is no more than asked for, nor than there is
-taken-most : (n : ℕ) (xs : List ℕ) → (length (take n xs) ≤ n) × (length (take n xs) ≤ length xs)
-taken-most n xs =
-    rw (length-take n xs) (min-le-left n (length xs), rw (min-comm n (length xs)) (min-le-left (length xs) n))
-
--- a stream has no more whole blocks than an update counts
-stream-few : (h : Hasher) (bytes : List ℕ) → length (streamOf h bytes) / 64 ≤ blocksFilled h (length bytes)
-stream-few h bytes =
-    let short = taken-most (h .fill) (h .pending) .0 in
-    omega (arith, length-append (take (h .fill) (h .pending)) bytes)
 
 -- the pending bytes x, the padding y and the length are no more blocks than a finish counts
 tail-room : (b : Bool) (fill x y : ℕ) → leb fill 55 ≡ b → x ≤ fill → x ≤ 64 → y ≤ 64 * pick b 1 2 - 8 - fill → (x + y + 8) / 64 ≤ pick b 1 2
@@ -179,7 +169,7 @@ module _ (f : Flags) (bytes : List ℕ) (l : Loan) (pass : ConditionsPass (withM
 module _ (f : Flags) (t : Tables) (ps qs : List Piece) (last rest : List ℕ) (ok : NoneRefused (withMasks f Conditions) t ps last)
     (same : bytesOf qs ≡ bytesOf ps) (lent : pieceMasks qs ++ rest ≡ messageMasks t (bytesOf ps)) where
   passes : ConditionsPass (withMasks f Conditions) (t .conditions)
-  passes = tables-good (withMasks f Conditions) t (last-accepted (withMasks f Conditions) t ps last ok .good) .0
+  passes = tables-good (withMasks f Conditions) t (tables-pass (withMasks f Conditions) t ps last ok) .0
 
   -- With each mask in its turn, if they are looked at, none of those calls is refused.
   pub surviving-taken : (usesMasks (withMasks f Lent) ≡ true → InTurn qs rest) → NoneRefused (withMasks f Lent) t qs rest

@@ -23,7 +23,8 @@ use Rattle.claims.specs.Marked.{markedBy, againBy, wholeBlocks}
 use Rattle.claims.proofs.Below.{anyBelow}
 use Rattle.claims.proofs.Unmarked.{atBlock}
 use Rattle.claims.proofs.Empty.{absorb-none}
-use Rattle.claims.proofs.Piecewise.{taken-accepted, pieces-taken, pieces-absorbed, Fitting, pieces-pass}
+use Rattle.claims.proofs.Looked.{taken-accepted}
+use Rattle.claims.proofs.Piecewise.{pieces-taken, pieces-absorbed, Fitting, pieces-pass}
 use Rattle.claims.proofs.Whole.{hashed-is}
 
 module _ (h : Hasher) (size : Sized h) (t : Tables) where

@@ -47,7 +47,7 @@ module _ (f : Flags) (t : Tables) (ps : List Piece) (last : List ℕ) (short : l
   -- No cut of a message of at most 2^61-1 bytes is refused where the tables are good and each block's mask is lent in its turn, if they are looked at.
   pub none-refused : tablesRefusal f t ≡ Nothing → (usesMasks f ≡ true → InTurn ps last) → NoneRefused f t ps last
   none-refused good turn =
-      let r : Fitting (freshOf f) t ps = record { sound = fresh-sound f; good = good; counts = λ u. turn u .updates } in
+      let r : Fitting (freshOf f) t ps = record { sound = fresh-sound f; good = λ some. good; counts = λ u. turn u .updates } in
       let e = pieces-pass ps (freshOf f) t r (omega arith) in
       let flags = pieces-flags (freshOf f) t ps in
       record {
@@ -59,7 +59,7 @@ module _ (f : Flags) (t : Tables) (ps : List Piece) (last : List ℕ) (short : l
               sized = refl;
               loan =
                   rw (flags, fill-is f t ps e)
-                  (accepted-loan f (lend t last) (tailBlocks (length (bytesOf ps) % 64)) (record { counts = λ u. turn u .finish; good = good }));
+                  (accepted-loan f (lend t last) (tailBlocks (length (bytesOf ps) % 64)) (record { counts = λ u. turn u .finish; good = λ some. good }));
             });
       }
 

@@ -12,13 +12,11 @@ use Rattle.refusal.specs.declared.Refusal.{Refusal}
 use Rattle.refusal.specs.declared.Refusal.the-variants.{Nothing}
 use Rattle.verdict.specs.Verdict.{digestSize, verdictOf}
 use Rattle.fips.specs.Fips.{paddingFor, padded, initial}
-use Rattle.fips.specs.Tail.{tailBlocks}
 use Rattle.fips.proofs.Padded.{tail-is}
 use Rattle.flags.specs.Flags.{defaults}
 use Rattle.flags.specs.declared.Flags.{Flags}
 use Rattle.loan.specs.Loan.{Tables, Loan}
 use Rattle.stream.specs.Fold.{firstChain, folded}
-use Rattle.loan.proofs.Loans.{loan-accepted}
 use Rattle.hasher.specs.Hasher.{taken, chainOf}
 use Rattle.hasher.specs.declared.Hasher.{Hasher}
 use Rattle.hasher.specs.declared.Updated.{Updated}
@@ -31,9 +29,8 @@ use Rattle.finish.specs.Finish.{lastChain, finishRefusal, finished, finishedRes
 use Rattle.finish.specs.declared.Outcome.{Outcome}
 use Rattle.finish.specs.declared.Outcome.the-variants.{Done}
 use Rattle.finish.proofs.Finishing.{finish-finishing}
-use Rattle.one_shot.specs.Whole.{blocksOf, wholeRefusal, wholeChain, wholeOf, digested}
+use Rattle.one_shot.specs.Whole.{wholeRefusal, wholeChain, wholeOf, digested}
 use Rattle.one_shot.specs.declared.Digested.{Digested}
-use Rattle.one_shot.proofs.Fed.{refusal-whole}
 use Rattle.in_place.specs.InPlace.{InPlace}
 use Rattle.claims.specs.Sound.{Typed, TypedVectors}
 use Rattle.claims.specs.Pieces.{Piece, bytesOf, hashed, loanOfAll, NoneRefused}
@@ -42,7 +39,7 @@ use Rattle.claims.specs.EveryCall.{MarkedAfter, lastBlocks, VerdictBy}
 use Rattle.claims.proofs.After.{mark-then}
 use Rattle.claims.proofs.Along.{initial-words, padding-bytes, padded-bytes}
 use Rattle.claims.proofs.Typed.{own-words, stream-bytes}
-use Rattle.claims.proofs.Piecewise.{taken-accepted}
+use Rattle.claims.proofs.Looked.{update-passes, finish-passes, whole-passes}
 use Rattle.claims.proofs.Verdicts.{is-ok, is-mitigated, is-collision}
 use Rattle.claims.proofs.OneShot.{whole-taken, whole-agrees}
 use Rattle.claims.proofs.MetAlong.{some-met, folded-met}
@@ -82,7 +79,7 @@ module _ (h : Hasher) (l : Loan) (typed : Typed h) (words : TypedVectors (l .tab
       let m : updated h bytes l .hasher .mark ≡ folded (h .flags) l (chainOf h) (streamOf h bytes) .mark =
       ap (λ (u : Updated). u .hasher .mark) (taken-update h bytes l a) ∙ ap (λ (g : Hasher). g .mark) (absorbed-is h bytes l)
       in
-      same-mark m (folded-met (h .flags) l (chainOf h) (streamOf h bytes) (own-words h typed) (stream-bytes h typed bytes b) words (taken-accepted h bytes l a .good))
+      same-mark m (folded-met (h .flags) l (chainOf h) (streamOf h bytes) (own-words h typed) (stream-bytes h typed bytes b) words (update-passes h bytes l a))
 
   -- So does an update in place.
   pub in-place-met : (bytes : List ℕ) → AllBytes bytes → (r : Refusal) (g : Hasher) → InPlace h bytes l r g → r ≡ Nothing
@@ -95,10 +92,9 @@ module _ (h : Hasher) (l : Loan) (typed : Typed h) (words : TypedVectors (l .tab
   last-met size e =
       let a = finish-finishing h size l e in
       let below = formed h (a .well) .fill-le in
-      let good = loan-accepted (h .flags) l (tailBlocks (h .fill)) (a .loan) .good in
       let n : h .fill ≡ taken h % 64 = omega arith in
       rw (tail-is (h .pending) (h .fill) (taken h) n)
-      (folded-met (h .flags) l (chainOf h) (lastBlocks h) (own-words h typed) (stream-bytes h typed (paddingFor (taken h)) (padding-bytes (taken h))) words good)
+      (folded-met (h .flags) l (chainOf h) (lastBlocks h) (own-words h typed) (stream-bytes h typed (paddingFor (taken h)) (padding-bytes (taken h))) words (λ some. finish-passes h size l e))
 
   -- A finish that is not refused gives its verdict by whether the hasher was marked or, with detection on, a selected sibling meets one of the last blocks.
   pub finish-met : finishRefusal h digestSize l ≡ Nothing → VerdictBy (finished h l .outcome) (h .flags .mitigate) (MarkedAfter h l (lastBlocks h))
@@ -116,10 +112,9 @@ pub whole-met : (f : Flags) (bytes : List ℕ) (l : Loan) → AllBytes bytes →
     → VerdictBy (wholeOf f bytes l .outcome) (f .mitigate) ((f .detect ≡ true) × OneMetIn f l initial (padded bytes))
 unfolding wholeOf wholeChain
 whole-met f bytes l b words e =
-    let good = loan-accepted f l (blocksOf (length bytes)) (refusal-whole f (length bytes) l e .loan) .good in
     rw e
     (verdict-by (folded f l firstChain (padded bytes) .mark) (f .mitigate) ((f .detect ≡ true) × OneMetIn f l initial (padded bytes))
-    (same-mark (mark-then f l firstChain (padded bytes)) (some-met f l initial (padded bytes) initial-words (padded-bytes bytes b) words good)))
+    (same-mark (mark-then f l firstChain (padded bytes)) (some-met f l initial (padded bytes) initial-words (padded-bytes bytes b) words (λ some. whole-passes f (length bytes) l e))))
 
 -- So does the one-shot form, with detection and mitigation on.
 pub one-shot-met : (bytes : List ℕ) (l : Loan) → AllBytes bytes → TypedVectors (l .tables) → wholeRefusal defaults (length bytes) l ≡ Nothing

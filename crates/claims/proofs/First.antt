@@ -12,12 +12,10 @@ use Rattle.refusal.specs.declared.Refusal.{Refusal}
 use Rattle.refusal.specs.declared.Refusal.the-variants.{Nothing}
 use Rattle.verdict.specs.Verdict.{digestSize}
 use Rattle.fips.specs.Fips.{paddingFor, padded, initial}
-use Rattle.fips.specs.Tail.{tailBlocks}
 use Rattle.fips.proofs.Padded.{tail-is}
 use Rattle.flags.specs.Flags.{defaults}
 use Rattle.flags.specs.declared.Flags.{Flags}
-use Rattle.loan.specs.Loan.{Tables, Loan, lend, tablesRefusal}
-use Rattle.loan.proofs.Loans.{loan-accepted}
+use Rattle.loan.specs.Loan.{Tables, Loan, lend}
 use Rattle.stream.specs.Fold.{nowhere, firstChain, folded}
 use Rattle.stream.specs.declared.FirstMark.{FirstMark}
 use Rattle.hasher.specs.Hasher.{wellFormed, taken, chainOf, freshOf, resetOf}
@@ -30,11 +28,10 @@ use Rattle.update.specs.Update.{updated}
 use Rattle.update.proofs.Taken.{update-taken, taken-update}
 use Rattle.finish.specs.Finish.{lastChain, finishRefusal, finished, finishedReset}
 use Rattle.finish.proofs.Finishing.{finish-finishing}
-use Rattle.one_shot.specs.Whole.{blocksOf, wholeRefusal, wholeChain, wholeOf, digested}
+use Rattle.one_shot.specs.Whole.{wholeRefusal, wholeChain, wholeOf, digested}
 use Rattle.one_shot.specs.declared.Digested.{Digested}
-use Rattle.one_shot.proofs.Fed.{refusal-whole}
 use Rattle.in_place.specs.InPlace.{InPlace}
-use Rattle.claims.specs.Sound.{Sized, Typed, TypedVectors, TypedConditions}
+use Rattle.claims.specs.Sound.{Sized, Typed, TypedVectors, TypedConditions, PassFor}
 use Rattle.claims.specs.Pieces.{Piece, bytesOf, pieceMasks, piecewise, taking, hashed, loanOfAll, NoneRefused}
 use Rattle.claims.specs.Several.{RunInPlace}
 use Rattle.claims.specs.EveryCall.{lastBlocks}
@@ -44,7 +41,8 @@ use Rattle.claims.proofs.Along.{initial-words, padding-bytes, padded-by
 use Rattle.claims.proofs.Typed.{own-words, stream-bytes, fresh-typed}
 use Rattle.claims.proofs.Formed.{well-formed, zeros-nowhere}
 use Rattle.claims.proofs.Kept.{fresh-sound}
-use Rattle.claims.proofs.Piecewise.{taken-accepted, pieces-absorbed}
+use Rattle.claims.proofs.Looked.{update-passes, finish-passes, whole-passes}
+use Rattle.claims.proofs.Piecewise.{pieces-absorbed}
 use Rattle.claims.proofs.Cut.{cut-joined}
 use Rattle.claims.proofs.OneShot.{whole-taken, whole-agrees}
 use Rattle.claims.proofs.Several.{reset-fresh, run-in-place}
@@ -64,11 +62,11 @@ call-told h l xs well =
 
 -- the same in demand 3's words, and with what selects a record spelled out
 to-met : (h : Hasher) (l : Loan) (bytes : List ℕ) {first : FirstMark} → Typed h → TypedVectors (l .tables) → AllBytes bytes
-    → tablesRefusal (h .flags) (l .tables) ≡ Nothing → CallMarked h l (streamOf h bytes) first → CallMet h l (streamOf h bytes) first
+    → PassFor (h .flags) l (streamOf h bytes) → CallMarked h l (streamOf h bytes) first → CallMet h l (streamOf h bytes) first
 to-met h l bytes typed words b fine =
     call-same (same-met (h .flags) l _ (streamOf h bytes) (own-words h typed) (stream-bytes h typed bytes b) words fine)
 
-to-selected : (h : Hasher) (l : Loan) (xs : List ℕ) {first : FirstMark} → TypedConditions (l .tables) → tablesRefusal (h .flags) (l .tables) ≡ Nothing
+to-selected : (h : Hasher) (l : Loan) (xs : List ℕ) {first : FirstMark} → TypedConditions (l .tables) → PassFor (h .flags) l xs
     → CallMet h l xs first → CallSelected h l xs first
 to-selected h l xs conditions fine = call-same (same-selected (h .flags) l _ xs conditions fine)
 
@@ -89,11 +87,11 @@ module _ (h : Hasher) (l : Loan) where
       subst (λ (k : Hasher). CallMarked h l (streamOf h bytes) (k .first)) (sym (p .0)) (update-told bytes (sym (p .1) ∙ e))
 
   -- the tables of an update, and of a finish, that is not refused
-  update-fine : (bytes : List ℕ) → updated h bytes l .refusal ≡ Nothing → tablesRefusal (h .flags) (l .tables) ≡ Nothing
-  update-fine bytes e = taken-accepted h bytes l (update-taken h bytes l e) .good
+  update-fine : (bytes : List ℕ) → updated h bytes l .refusal ≡ Nothing → PassFor (h .flags) l (streamOf h bytes)
+  update-fine bytes e = update-passes h bytes l (update-taken h bytes l e)
 
-  finish-fine : (size : ℕ) → finishRefusal h size l ≡ Nothing → tablesRefusal (h .flags) (l .tables) ≡ Nothing
-  finish-fine size e = loan-accepted (h .flags) l (tailBlocks (h .fill)) (finish-finishing h size l e .loan) .good
+  finish-fine : (size : ℕ) → finishRefusal h size l ≡ Nothing → PassFor (h .flags) l (lastBlocks h)
+  finish-fine size e some = finish-passes h size l e
 
   -- the first mark after the last blocks
   last-told : (size : ℕ) → finishRefusal h size l ≡ Nothing → CallMarked h l (lastBlocks h) (lastChain h l .first)
@@ -255,8 +253,8 @@ module _ (f : Flags) (bytes : List ℕ) (l : Loan) (e : wholeRefusal f (length b
   unfolding wholeOf wholeChain
   whole-told = rw e (by-number zero-add (fold-told f l firstChain (padded bytes) refl refl))
 
-  whole-fine : tablesRefusal f (l .tables) ≡ Nothing
-  whole-fine = loan-accepted f l (blocksOf (length bytes)) (refusal-whole f (length bytes) l e .loan) .good
+  whole-fine : PassFor f l (padded bytes)
+  whole-fine some = whole-passes f (length bytes) l e
 
   module _ (b : AllBytes bytes) (words : TypedVectors (l .tables)) where
     pub whole-told-met : MessageMet f l initial (padded bytes) (wholeOf f bytes l .first)

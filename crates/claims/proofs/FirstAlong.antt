@@ -7,7 +7,6 @@ use Prim.Native.Nat.{ℕ, _+_}
 use lib.ListN.{length}
 use Rattle.word.specs.Lists.{AllBytes}
 use Rattle.word.proofs.Tests.{both-true, unless-true}
-use Rattle.refusal.specs.declared.Refusal.the-variants.{Nothing}
 use Rattle.step.specs.Step.{Words}
 use Rattle.step.specs.declared.Regs.{Regs}
 use Rattle.block.specs.Schedule.{wordsOf, scheduleOf}
@@ -15,18 +14,19 @@ use Rattle.table.specs.Table.{recordsIn}
 use Rattle.search.proofs.Ended.{found-ended}
 use Rattle.detect.specs.Detect.{answerOf}
 use Rattle.flags.specs.declared.Flags.{Flags}
-use Rattle.loan.specs.Loan.{Loan, lookedAt, tablesRefusal}
+use Rattle.loan.specs.Loan.{Loan, lookedAt}
 use Rattle.stream.specs.Fold.{nowhere, folded}
 use Rattle.stream.specs.declared.Chain.{Chain}
 use Rattle.stream.proofs.Folded.{folded-is}
-use Rattle.claims.specs.Sound.{TypedVectors, TypedConditions, VectorsGood}
+use Rattle.claims.specs.Sound.{TypedVectors, TypedConditions, VectorsGood, PassFor}
 use Rattle.claims.specs.Marked.{againBy, wholeBlocks, blockAt, selectedAt, wordsAt, markedIn, placeIn}
 use Rattle.claims.specs.First.{Least, OneMarkedIn, FirstBlock, MarksAt, FirstMarked, OneMetOn, FirstVector, FirstMetAt, OneSelectedOn, FirstSelectedAt, FirstBy}
 use Rattle.claims.proofs.Below.{some-below}
 use Rattle.claims.proofs.Blocks.{first-left, first-given}
 use Rattle.claims.proofs.Along.{hash-words, block-bytes}
 use Rattle.claims.proofs.Demand3.{marks-exactly}
-use Rattle.claims.proofs.MetAlong.{looked-good, marked-in-at, some-met}
+use Rattle.claims.proofs.Looked.{looked-good}
+use Rattle.claims.proofs.MetAlong.{marked-in-at, some-met}
 use Rattle.claims.proofs.Selected.{selected-for, met-by, one-met-by}
 use Rattle.claims.proofs.Least.{least-only, least-alike, least-below, hit-least, first-by, Same}
 
@@ -77,7 +77,7 @@ module _ (f : Flags) (l : Loan) (h : Regs) (xs : List ℕ) (hw : Words h) (bytes
       p
 
   -- By the marks and in demand 3's words the first marked block and its record are the same, where the tables pass.
-  pub same-met : tablesRefusal f (l .tables) ≡ Nothing → Same (OneMarkedIn f l h xs) (OneMetOn f l h xs) (FirstMarked f l h xs) (FirstMetAt f l h xs)
+  pub same-met : PassFor f l xs → Same (OneMarkedIn f l h xs) (OneMetOn f l h xs) (FirstMarked f l h xs) (FirstMetAt f l h xs)
   same-met fine =
       let at = marked-in-at f l h xs hw bytes words in
       record {
@@ -85,28 +85,28 @@ module _ (f : Flags) (l : Loan) (h : Regs) (xs : List ℕ) (hw : Words h) (bytes
         places = λ i p. (
           λ a.
               let on = both-true (f .detect) _ (a .0 .holds) .0 in
-              let good = looked-good f l fine on in
+              let good = looked-good f l xs fine i (a .0 .inside) on in
               ((on, least-alike (λ j b. at on good j) i .0 (a .0)), vector-meets good i p .0 (a .1)),
           λ a.
-              let good = looked-good f l fine (a .0 .0) in
+              let good = looked-good f l xs fine i (a .0 .1 .inside) (a .0 .0) in
               (least-alike (λ j b. at (a .0 .0) good j) i .1 (a .0 .1), vector-meets good i p .1 (a .1)),
         );
       }
 
 -- And so they are with what selects a record spelled out.
-pub same-selected : (f : Flags) (l : Loan) (h : Regs) (xs : List ℕ) → TypedConditions (l .tables) → tablesRefusal f (l .tables) ≡ Nothing
+pub same-selected : (f : Flags) (l : Loan) (h : Regs) (xs : List ℕ) → TypedConditions (l .tables) → PassFor f l xs
     → Same (OneMetOn f l h xs) (OneSelectedOn f l h xs) (FirstMetAt f l h xs) (FirstSelectedAt f l h xs)
 same-selected f l h xs conditions fine =
     record {
       whether = one-met-by f l h xs conditions fine;
       places = λ i p. (
         λ a.
-            let good = looked-good f l fine (a .0 .0) in (
+            let good = looked-good f l xs fine i (a .0 .1 .inside) (a .0 .0) in (
               (a .0 .0, least-alike (λ j b. met-by f l xs j conditions good h) i .0 (a .0 .1)),
               least-alike (λ q b. Iff·and (selected-for f l xs i conditions good q b) Iff·rfl) p .0 (a .1),
             ),
         λ a.
-            let good = looked-good f l fine (a .0 .0) in (
+            let good = looked-good f l xs fine i (a .0 .1 .inside) (a .0 .0) in (
               (a .0 .0, least-alike (λ j b. met-by f l xs j conditions good h) i .1 (a .0 .1)),
               least-alike (λ q b. Iff·and (selected-for f l xs i conditions good q b) Iff·rfl) p .1 (a .1),
             ),

@@ -17,6 +17,7 @@ pub mod Cut
 pub mod OneShot
 pub mod Verdicts
 pub mod Refusals
+pub mod Short
 pub mod Formed
 pub mod Kept
 pub mod Typed
@@ -36,6 +37,7 @@ pub mod Unmarked
 pub mod Updates
 pub mod After
 pub mod Empty
+pub mod Looked
 pub mod Piecewise
 pub mod Whole
 pub mod Along

@@ -51,4 +51,4 @@ long-refused f t ps long e = let l = short-is f t ps e in omega arith
 pub long-message : (f : Flags) (t : Tables) (ps : List Piece) → tablesRefusal f t ≡ Nothing → (usesMasks f ≡ true → Counted 0 ps)
     → mostBytes < length (bytesOf ps) → taking f t ps .refusal ≡ MessageLength
 long-message f t ps good counts long =
-    pieces-long ps (freshOf f) t (record { sound = fresh-sound f; good = good; counts = counts }) (omega arith)
+    pieces-long ps (freshOf f) t (record { sound = fresh-sound f; good = λ some. good; counts = counts }) (omega arith)

@@ -6,30 +6,25 @@ use mathlib.Core.List.{List}
 use Prim.Native.Nat.{ℕ}
 use Rattle.word.specs.Lists.{AllBytes}
 use Rattle.word.proofs.Tests.{both-true, one-true}
-use Rattle.refusal.specs.declared.Refusal.the-variants.{Nothing}
 use Rattle.step.specs.Step.{Words}
 use Rattle.step.specs.declared.Regs.{Regs}
 use Rattle.detect.specs.Detect.{answerOf}
 use Rattle.flags.specs.declared.Flags.{Flags}
-use Rattle.loan.specs.Loan.{Loan, lookedAt, tablesRefusal}
-use Rattle.loan.proofs.Loans.{tables-good}
+use Rattle.loan.specs.Loan.{Loan, lookedAt}
 use Rattle.stream.specs.Fold.{modeOf, folded}
 use Rattle.stream.specs.declared.Chain.{Chain}
-use Rattle.claims.specs.Sound.{TypedVectors, VectorsGood}
+use Rattle.claims.specs.Sound.{TypedVectors, VectorsGood, PassFor}
 use Rattle.claims.specs.Marked.{againBy, wholeBlocks, blockAt, selectedAt, wordsAt, markedIn}
 use Rattle.claims.specs.Message.{MetInAt, OneMetIn}
 use Rattle.claims.proofs.Below.{anyBelow, some-below}
 use Rattle.claims.proofs.After.{mark-then}
 use Rattle.claims.proofs.Along.{hash-words, block-bytes}
 use Rattle.claims.proofs.Demand3.{marked-in-exactly}
+use Rattle.claims.proofs.Looked.{looked-good}
 
 -- a block's mark with detection on
 pub with-detection : (on mark : Bool) (P : Type 0) → on ≡ true → (mark ≡ true) ↔ P → ((on && mark) ≡ true) ↔ P
 with-detection on mark P e m = (λ k. m .0 (both-true on mark k .1), λ p. rw e (m .1 p))
-
--- vectors that are looked at and not refused are good
-pub looked-good : (f : Flags) (l : Loan) → tablesRefusal f (l .tables) ≡ Nothing → f .detect ≡ true → VectorsGood (l .tables)
-looked-good f l fine = tables-good f (l .tables) fine .1
 
 module _ (f : Flags) (l : Loan) (h : Regs) (xs : List ℕ) (hw : Words h) (bytes : AllBytes xs) (words : TypedVectors (l .tables)) where
   -- In any mode block i is marked exactly when a sibling that is selected for it meets it.
@@ -41,15 +36,15 @@ module _ (f : Flags) (l : Loan) (h : Regs) (xs : List ℕ) (hw : Words h) (bytes
       (marked-in-exactly w (blockAt xs i) (l .tables .vectors) (hash-words (againBy f (l .tables)) i h xs (lookedAt f (l .masks)) hw) (block-bytes xs i bytes) words (modeOf f) mask good)
 
   -- one block is marked exactly when detection is on and one is met
-  pub some-met : tablesRefusal f (l .tables) ≡ Nothing → (anyBelow (markedIn f l h xs) (wholeBlocks xs) ≡ true) ↔ ((f .detect ≡ true) × OneMetIn f l h xs)
+  pub some-met : PassFor f l xs → (anyBelow (markedIn f l h xs) (wholeBlocks xs) ≡ true) ↔ ((f .detect ≡ true) × OneMetIn f l h xs)
   some-met fine = (
     λ e.
         let w = some-below (markedIn f l h xs) (wholeBlocks xs) .0 e in
         let on = both-true (f .detect) _ (w .2) .0 in
-        (on, (w .0, w .1, marked-in-at on (looked-good f l fine on) (w .0) .0 (w .2))),
+        (on, (w .0, w .1, marked-in-at on (looked-good f l xs fine (w .0) (w .1) on) (w .0) .0 (w .2))),
     λ k.
         let w = k .1 in
-        some-below (markedIn f l h xs) (wholeBlocks xs) .1 (w .0, w .1, marked-in-at (k .0) (looked-good f l fine (k .0)) (w .0) .1 (w .2)),
+        some-below (markedIn f l h xs) (wholeBlocks xs) .1 (w .0, w .1, marked-in-at (k .0) (looked-good f l xs fine (w .0) (w .1) (k .0)) (w .0) .1 (w .2)),
   )
 
 -- the mark after the blocks of a call, where P says whether one of them is marked: it was there, or one is
@@ -64,6 +59,6 @@ folded-by f l c xs s =
 
 -- it was there or, with detection on, one of them is met
 pub folded-met : (f : Flags) (l : Loan) (c : Chain) (xs : List ℕ) → Words (c .words) → AllBytes xs → TypedVectors (l .tables)
-    → tablesRefusal f (l .tables) ≡ Nothing
+    → PassFor f l xs
     → (folded f l c xs .mark ≡ true) ↔ ((c .mark ≡ true) ⊎ ((f .detect ≡ true) × OneMetIn f l (c .words) xs))
 folded-met f l c xs hw bytes words fine = folded-by f l c xs (some-met f l (c .words) xs hw bytes words fine)

@@ -17,8 +17,9 @@ use Rattle.one_shot.specs.Whole.{blocksOf, wholeRefusal, wholeOf, digested}
 use Rattle.one_shot.proofs.Fed.{refusal-whole, whole-refusal}
 use Rattle.claims.specs.Pieces.{Piece, bytesOf, pieceMasks, taking, hashed, inTwo, loanOfAll, NoneRefused, InTurn}
 use Rattle.claims.proofs.Kept.{fresh-sound}
+use Rattle.claims.proofs.Looked.{whole-passes}
 use Rattle.claims.proofs.Cut.{cut-joined}
-use Rattle.claims.proofs.Whole.{masks-counted, short-is, last-accepted, hashed-by}
+use Rattle.claims.proofs.Whole.{masks-counted, short-is, last-accepted, tables-pass, hashed-by}
 use Rattle.claims.proofs.Every.{none-refused}
 
 module _ (f : Flags) (t : Tables) (ps : List Piece) (last : List ℕ) where
@@ -37,7 +38,7 @@ module _ (f : Flags) (t : Tables) (ps : List Piece) (last : List ℕ) where
                   let m = masks-counted f t ps e u in
                   let n = a .counts u in
                   omega (arith, length-append (pieceMasks ps) last);
-              good = a .good;
+              good = λ some. tables-pass f t ps last ok;
             });
       })
 
@@ -51,7 +52,7 @@ module _ (f : Flags) (t : Tables) (ps : List Piece) (last : List ℕ) where
   pub whole-cut : (usesMasks f ≡ true → InTurn ps last) → wholeRefusal f (length (bytesOf ps)) (loanOfAll t ps last) ≡ Nothing → NoneRefused f t ps last
   whole-cut turn e =
       let w = refusal-whole f (length (bytesOf ps)) (loanOfAll t ps last) e in
-      none-refused f t ps last (w .short) (loan-accepted f (loanOfAll t ps last) (blocksOf (length (bytesOf ps))) (w .loan) .good) turn
+      none-refused f t ps last (w .short) (whole-passes f (length (bytesOf ps)) (loanOfAll t ps last) e) turn
 
 -- So one call, not refused, has the outcome, digest and first mark of one update, with the masks of the whole blocks, and a finish, with the rest.
 pub whole-two : (f : Flags) (t : Tables) (bytes first last : List ℕ) → (usesMasks f ≡ true → length first ≡ length bytes / 64)

@@ -1,8 +1,10 @@
 -- Updates one after the other, where none is refused. Assumes nothing.
 use mathlib.Core.Path.{_≡_, refl, sym, ap, _∙_}
 use mathlib.Core.Bool.{true}
+use mathlib.Core.Logic.{⊎-elim}
 use mathlib.Core.List.{List, [], _∷_, _++_, append-nil}
-use Prim.Native.Nat.{ℕ, _+_, _≤_}
+use Prim.Native.Nat.{ℕ, _+_, _≤_, _<_}
+use native.Mathlib.Nat.{eq-zero-or-pos}
 use native.Mathlib.Omega.{arith}
 use lib.ListN.{length, length-append}
 use Rattle.word.specs.Choice.{pick}
@@ -12,7 +14,7 @@ use Rattle.word.proofs.Tests.{of-either}
 use Rattle.fips.specs.Fips.{mostBytes}
 use Rattle.flags.specs.Flags.{usesMasks}
 use Rattle.loan.specs.Loan.{Tables, Loan, lend, tablesRefusal}
-use Rattle.loan.proofs.Loans.{AcceptedLoan, loan-accepted, accepted-loan}
+use Rattle.loan.proofs.Loans.{accepted-loan}
 use Rattle.refusal.proofs.Passed.{of-refusal}
 use Rattle.hasher.specs.Hasher.{wellFormed, taken}
 use Rattle.hasher.specs.declared.Hasher.{Hasher}
@@ -28,6 +30,7 @@ use Rattle.claims.specs.Pieces.{Piece, bytesOf, pieceMasks, piecewise, C
 use Rattle.claims.proofs.Updates.{absorb-cut}
 use Rattle.claims.proofs.After.{sized-after}
 use Rattle.claims.proofs.Empty.{absorb-none}
+use Rattle.claims.proofs.Looked.{taken-accepted}
 
 pub piecewise-nil : (h : Hasher) (t : Tables) → piecewise h t [] ≡ record { refusal = Nothing; hasher = h }
 unfolding piecewise
@@ -60,10 +63,6 @@ module _ (h : Hasher) (t : Tables) (p : Piece) (ps : List Piece) where
   pub piecewise-next : Taken h (p .bytes) (lentWith t p) → piecewise h t (p ∷ ps) ≡ piecewise (absorbedBy h t p) t ps
   piecewise-next a = rw (piecewise-cons h t p ps, taken-update h (p .bytes) (lentWith t p) a)
 
--- what an update that is not refused is lent
-pub taken-accepted : (h : Hasher) (bytes : List ℕ) (l : Loan) → Taken h bytes l → AcceptedLoan (h .flags) l (blocksFilled h (length bytes))
-taken-accepted h bytes l a = loan-accepted (h .flags) l (blocksFilled h (length bytes)) (a .loan)
-
 -- two updates that are not refused, as one
 taken-cut : (h : Hasher) (t : Tables) (d e ms ns : List ℕ) → length (h .pending) ≡ 64
     → Taken h d (lend t ms) → Taken (absorbed h d (lend t ms)) e (lend t ns) → Taken h (d ++ e) (lend t (ms ++ ns))
@@ -72,7 +71,7 @@ taken-cut h t d e ms ns long a b =
     let below = formed h (a .well) .fill-le in
     let n = taken-after h d (lend t ms) long a in
     let f = fill-after h d (lend t ms) long below in
-    let same : usesMasks (g .flags) ≡ usesMasks (h .flags) = ap usesMasks (flags-after h d (lend t ms)) in
+    let flags = flags-after h d (lend t ms) in
     let first = taken-accepted h d (lend t ms) a in
     let second = taken-accepted g e (lend t ns) b in
     record {
@@ -83,9 +82,13 @@ taken-cut h t d e ms ns long a b =
           (record {
             counts = λ u.
                 let x = first .counts u in
-                let y = second .counts (same ∙ u) in
+                let y = second .counts (ap usesMasks flags ∙ u) in
                 omega (arith, length-append d e, length-append ms ns);
-            good = first .good;
+            good = λ some.
+                ⊎-elim
+                (λ (z : blocksFilled h (length d) ≡ 0). rw flags at (second .good (omega (arith, length-append d e))))
+                (λ (z : 0 < blocksFilled h (length d)). first .good z)
+                (eq-zero-or-pos (blocksFilled h (length d)));
           });
     }
 
@@ -109,21 +112,22 @@ pieces-absorbed (p ∷ ps) h t size well e =
     ∙ pieces-absorbed ps _ t (sized-after h (p .bytes) (lentWith t p)) (formed-after h (p .bytes) (lentWith t p) (size .pending-size) a) (rw n at e)
     ∙ rw (absorb-cut h t (p .bytes) (bytesOf ps) (p .masks) (pieceMasks ps) (λ u. rw l (lent .counts u)))
 
--- pieces of which only the length can be refused: the hasher is sound, the tables good, and there is a mask for each block
+-- pieces of which only the length can be refused: the hasher is sound, the tables are good if a block is filled, and there is a mask for each block
 pub record Fitting (h : Hasher) (t : Tables) (ps : List Piece) : Type 0 where
   pub sound : Sound h
-  pub good : tablesRefusal (h .flags) t ≡ Nothing
+  pub good : 1 ≤ blocksFilled h (length (bytesOf ps)) → tablesRefusal (h .flags) t ≡ Nothing
   pub counts : usesMasks (h .flags) ≡ true → Counted (h .fill) ps
 
 module _ (h : Hasher) (t : Tables) (p : Piece) (ps : List Piece) (r : Fitting h t (p ∷ ps)) (fits : taken h + length (p .bytes) ≤ mostBytes) where
   pub fitting-taken : Taken h (p .bytes) (lentWith t p)
   fitting-taken =
+      let n = length-append (p .bytes) (bytesOf ps) in
       record {
         well = r .sound .well;
         fits = fits;
         loan =
             accepted-loan (h .flags) (lentWith t p) (blocksFilled h (length (p .bytes)))
-            (record { counts = λ u. r .counts u .0; good = r .good });
+            (record { counts = λ u. r .counts u .0; good = λ some. r .good (omega arith) });
       }
 
   pub fitting-next : Fitting (absorbedBy h t p) t ps
@@ -132,10 +136,11 @@ module _ (h : Hasher) (t : Tables) (p : Piece) (ps : List Piece) (r : Fitting h 
       let l = lentWith t p in
       let long = r .sound .size .pending-size in
       let f = flags-after h d l in
+      let fill = fill-after h d l long (formed h (r .sound .well) .fill-le) in
       record {
         sound = record { size = sized-after h d l; well = formed-after h d l long fitting-taken };
-        good = rw f (r .good);
-        counts = λ u. rw (fill-after h d l long (formed h (r .sound .well) .fill-le)) (r .counts (sym (ap usesMasks f) ∙ u) .1);
+        good = λ some. rw f (r .good (omega (arith, fill, length-append d (bytesOf ps))));
+        counts = λ u. rw fill (r .counts (sym (ap usesMasks f) ∙ u) .1);
       }
 
   pub fitting-taken-after : taken (absorbedBy h t p) ≡ taken h + length (p .bytes)

@@ -1,10 +1,11 @@
 -- 01's table of numbers, line by line: for each entry point, each number is given exactly when the table says so, in the
--- order of 01 with 02's request d, and no other number; and then nothing has changed. What is refused of a loan, 6 and the numbers of the
--- tables, is said once, in loan/proofs/Loans (`loan-0`, `-6`, `-conditions`, `-table`, `-gives`, `-only`): here it stands behind the tests
--- of each call. Lines 2 to 5 are those of the table's check, `tableFault`: `is-2` of table/proofs/Faults, `line-3`, `-4` and `-5` of
--- table/proofs/Lines. Lines 12 and 13 are those of `conditionFault`: `conditions-12` and `-13` of conditions/proofs/Faults. Assumes nothing.
+-- order of 01 with 02's requests d and f, and no other number; and then nothing has changed. What is refused of a loan, 6 and the numbers of
+-- the tables, is said once, in loan/proofs/Loans (`loan-0`, `-6`, `-conditions`, `-table`, `-gives`, `-only`): here it stands behind the tests
+-- of each call. An update looks at the tables only where it compresses a block, which a finish and a whole message always do. Lines 2 to 5 are
+-- those of the table's check, `tableFault`: `is-2` of table/proofs/Faults, `line-3`, `-4` and `-5` of table/proofs/Lines. Lines 12 and 13 are
+-- those of `conditionFault`: `conditions-12` and `-13` of conditions/proofs/Faults. Assumes nothing.
 use mathlib.Core.Path.{_≡_, refl, sym, ap, _∙_, subst}
-use mathlib.Core.Logic.{_↔_, Iff·rfl, Iff·trans, Iff·and, ⊎-elim}
+use mathlib.Core.Logic.{_⊎_, inl, inr, ⊎-elim, _↔_, Iff·rfl, Iff·trans, Iff·and}
 use mathlib.Core.Bool.{Bool, true, false, not, _&&_, _||_, or-true, true≢false, false≢true}
 use mathlib.Core.List.{List, [], _∷_}
 use Prim.Native.Nat.{ℕ, _+_, _≤_, _<_}
@@ -33,10 +34,11 @@ use Rattle.detect.specs.declared.Mode.{Mode}
 use Rattle.detect.specs.declared.OneBlock.{OneBlock}
 use Rattle.fips.specs.Fips.{mostBytes}
 use Rattle.fips.specs.Tail.{tailBlocks}
+use Rattle.fips.proofs.Tails.{tail-some}
 use Rattle.flags.specs.Flags.{usesConditions, defaults}
 use Rattle.flags.specs.declared.Flags.{Flags}
-use Rattle.loan.specs.Loan.{Tables, Loan, loanRefusal, loanNumbers, WellCounted, Miscounted, ConditionsPass, ConditionsGive, VectorsGive, GoodLoan}
-use Rattle.loan.proofs.Loans.{loan-0, loan-6, loan-conditions, loan-table, loan-gives, loan-gives-conditions, loan-only, one-setting}
+use Rattle.loan.specs.Loan.{Tables, Loan, tablesRefusal, loanRefusal, bothNumbers, loanNumbers, WellCounted, Miscounted, ConditionsPass, GoodTables, ConditionsGive, VectorsGive, GoodLoan}
+use Rattle.loan.proofs.Loans.{loan-0, loan-6, loan-conditions, loan-table, loan-gives, loan-gives-conditions, loan-is, loan-only, one-setting}
 use Rattle.stream.specs.Fold.{nowhere}
 use Rattle.hasher.specs.Hasher.{wellFormed, taken, freshOf, resetOf}
 use Rattle.hasher.specs.declared.Hasher.{Hasher}
@@ -46,8 +48,9 @@ use Rattle.finish.specs.Finish.{finishRefusal, outcomeRefusal, outcomeNumber, o
 use Rattle.finish.specs.declared.Outcome.{Outcome}
 use Rattle.finish.specs.declared.Outcome.the-variants.{Done, Refused}
 use Rattle.one_shot.specs.Whole.{blocksOf, wholeRefusal, wholeOf, digested}
+use Rattle.one_shot.proofs.Fed.{blocks-some}
 use Rattle.in_place.specs.InPlace.{InPlace}
-use Rattle.claims.specs.Refusals.{WellFormed}
+use Rattle.claims.specs.Refusals.{WellFormed, ByTables}
 use Rattle.claims.proofs.Formed.{well-formed}
 
 -- the tests, and what they decide
@@ -71,7 +74,7 @@ eachIn l k [] = true
 eachIn l k (x ∷ xs) = (oneOf l x || oneOf k x) && eachIn l k xs
 
 -- so what is in the third and not in the second is in the first
-without : (l k m : List ℕ) (n : ℕ) → eachIn l k m ≡ true → oneOf m n ≡ true → (oneOf k n ≡ true → ⊥) → oneOf l n ≡ true
+pub without : (l k m : List ℕ) (n : ℕ) → eachIn l k m ≡ true → oneOf m n ≡ true → (oneOf k n ≡ true → ⊥) → oneOf l n ≡ true
 without l k [] n a o out = absurd (false≢true o)
 without l k (x ∷ xs) n a o out =
     let b = both-true (oneOf l x || oneOf k x) _ a in
@@ -80,12 +83,46 @@ without l k (x ∷ xs) n a o out =
     (λ e. without l k xs n (b .1) e out)
     (one-true (eqb x n) _ o)
 
--- flags that look at conditions never give 6, and those that do not neither 12 nor 13
+-- a number of the tables is one of the conditions, or one of the vectors
+which-table : (n : ℕ) → oneOf bothNumbers n ≡ true → (oneOf conditionNumbers n ≡ true) ⊎ (oneOf tableNumbers n ≡ true)
+which-table n o =
+    ⊎-elim (λ (e : eqb 12 n ≡ true). inl (rw e))
+    (λ (o : (eqb 13 n || oneOf tableNumbers n) ≡ true). ⊎-elim (λ (e : eqb 13 n ≡ true). inl (rw e (or-true (eqb 12 n)))) inr (one-true (eqb 13 n) _ o))
+    (one-true (eqb 12 n) _ o)
+
+-- flags that ask for conditions never give 6, and those that do not neither 12 nor 13
 never-6 : (f : Flags) (l : Loan) (blocks : ℕ) → usesConditions f ≡ true → Miscounted f l blocks → ⊥
 never-6 f l blocks u m = one-setting f u (m .0)
 
 never-given : (f : Flags) (t : Tables) (n : ℕ) → usesConditions f ≡ false → ConditionsGive f t n → ⊥
 never-given f t n off g = true≢false (sym (g .0) ∙ off)
+
+-- what is asked where a block is compressed, and what holds with one compressed, of a call that compresses one
+asked-some : {blocks : ℕ} → 1 ≤ blocks → (A : Type 0) → (1 ≤ blocks → A) ↔ A
+asked-some some A = (λ h. h some, λ a n. a)
+
+with-some : {blocks : ℕ} → 1 ≤ blocks → (A : Type 0) → ((1 ≤ blocks) × A) ↔ A
+with-some some A = (λ h. h .1, λ a. (some, a))
+
+-- A loan for a block at least: the tables are looked at.
+module _ (f : Flags) (l : Loan) (blocks : ℕ) (some : 1 ≤ blocks) where
+  some-0 : (numberOf (loanRefusal f l blocks) ≡ 0) ↔ (WellCounted f l blocks × GoodTables f (l .tables))
+  some-0 = Iff·trans (loan-0 f l blocks) (Iff·and Iff·rfl (asked-some some _))
+
+  some-conditions : (n : ℕ) → oneOf conditionNumbers n ≡ true → (numberOf (loanRefusal f l blocks) ≡ n) ↔ ConditionsGive f (l .tables) n
+  some-conditions n i = Iff·trans (loan-conditions f l blocks n i) (with-some some _)
+
+  some-table : (n : ℕ) → oneOf tableNumbers n ≡ true → (numberOf (loanRefusal f l blocks) ≡ n) ↔ (WellCounted f l blocks × VectorsGive f (l .tables) n)
+  some-table n t = Iff·trans (loan-table f l blocks n t) (Iff·and Iff·rfl (with-some some _))
+
+-- A loan that is refused by a number of the tables is for a block at least, and what is given is what is wrong with the tables.
+loan-by-tables : (f : Flags) (l : Loan) (blocks : ℕ) → ByTables (loanRefusal f l blocks) → (1 ≤ blocks) × (loanRefusal f l blocks ≡ tablesRefusal f (l .tables))
+loan-by-tables f l blocks o =
+    let n = numberOf (loanRefusal f l blocks) in
+    ⊎-elim
+    (λ i. let g = loan-conditions f l blocks n i .0 refl in (g .0, loan-is f l blocks (g .0) (λ u. absurd (one-setting f (g .1 .0) u))))
+    (λ i. let g = loan-table f l blocks n i .0 refl in (g .1 .0, loan-is f l blocks (g .1 .0) (g .0)))
+    (which-table n o)
 
 -- what each line of the table says of the refusal r of a call that refuses 1, then by a test of its own, then of its loan
 record Lines (r : Refusal) (h : Hasher) (own : ℕ) (P Q : Type 0) (l : Loan) (blocks : ℕ) : Type 1 where
@@ -161,32 +198,47 @@ module _ (h : Hasher) (bytes : List ℕ) (l : Loan) where
       ↔ (WellFormed h × ((taken h + length bytes ≤ mostBytes) × Miscounted (h .flags) l (blocksFilled h (length bytes))))
   update-6 = update-lines .at-loan 6 _ refl (loan-6 (h .flags) l (blocksFilled h (length bytes)))
 
+  -- 2 to 5, only where a block is compressed
   pub update-table : (n : ℕ) → oneOf tableNumbers n ≡ true → (numberOf (updated h bytes l .refusal) ≡ n)
       ↔ (WellFormed h × ((taken h + length bytes ≤ mostBytes)
-      × (WellCounted (h .flags) l (blocksFilled h (length bytes)) × VectorsGive (h .flags) (l .tables) n)))
+      × (WellCounted (h .flags) l (blocksFilled h (length bytes)) × ((1 ≤ blocksFilled h (length bytes)) × VectorsGive (h .flags) (l .tables) n))))
   update-table n t = update-lines .at-loan n _ (of-table n t) (loan-table (h .flags) l (blocksFilled h (length bytes)) n t)
 
-  -- 12 and 13, where 6 would stand
+  -- 12 and 13, where 6 would stand, likewise
   pub update-conditions : (n : ℕ) → oneOf conditionNumbers n ≡ true → (numberOf (updated h bytes l .refusal) ≡ n)
-      ↔ (WellFormed h × ((taken h + length bytes ≤ mostBytes) × ConditionsGive (h .flags) (l .tables) n))
+      ↔ (WellFormed h × ((taken h + length bytes ≤ mostBytes) × ((1 ≤ blocksFilled h (length bytes)) × ConditionsGive (h .flags) (l .tables) n)))
   update-conditions n i = update-lines .at-loan n _ (of-conditions n i) (loan-conditions (h .flags) l (blocksFilled h (length bytes)) n i)
 
-  -- where the conditions are looked at and bad, what is wrong with them is what is given, number and place
-  pub update-gives-conditions : WellFormed h → taken h + length bytes ≤ mostBytes → usesConditions (h .flags) ≡ true
+  -- where a block is compressed and the conditions are looked at and bad, what is wrong with them is what is given, number and place
+  pub update-gives-conditions : WellFormed h → taken h + length bytes ≤ mostBytes → 1 ≤ blocksFilled h (length bytes) → usesConditions (h .flags) ≡ true
       → (GoodConditions (l .tables .conditions) → ⊥) → updated h bytes l .refusal ≡ conditionFault (l .tables .conditions)
-  update-gives-conditions w q u b = update-lines .is w q ∙ loan-gives-conditions (h .flags) l (blocksFilled h (length bytes)) u b
+  update-gives-conditions w q some u b = update-lines .is w q ∙ loan-gives-conditions (h .flags) l (blocksFilled h (length bytes)) some u b
 
-  -- where the table is looked at and the conditions pass, what is wrong with it is what is given, number and place
-  pub update-gives : WellFormed h → taken h + length bytes ≤ mostBytes → WellCounted (h .flags) l (blocksFilled h (length bytes))
+  -- where one is, the table is looked at and the conditions pass, what is wrong with it is what is given, number and place
+  pub update-gives : WellFormed h → taken h + length bytes ≤ mostBytes → 1 ≤ blocksFilled h (length bytes) → WellCounted (h .flags) l (blocksFilled h (length bytes))
       → ConditionsPass (h .flags) (l .tables .conditions) → h .flags .detect ≡ true → updated h bytes l .refusal ≡ tableFault (l .tables .vectors)
-  update-gives w q c p d = update-lines .is w q ∙ loan-gives (h .flags) l (blocksFilled h (length bytes)) c p d
+  update-gives w q some c p d = update-lines .is w q ∙ loan-gives (h .flags) l (blocksFilled h (length bytes)) some c p d
 
-  -- 6 is never given where conditions are looked at, and 12 and 13 never where they are not: with detection off or in another setting
+  -- in short: where a block is compressed and the masks are as many, what is wrong with the tables is what is given, number and place
+  pub update-tables : WellFormed h → taken h + length bytes ≤ mostBytes → 1 ≤ blocksFilled h (length bytes) → WellCounted (h .flags) l (blocksFilled h (length bytes))
+      → updated h bytes l .refusal ≡ tablesRefusal (h .flags) (l .tables)
+  update-tables w q some c = update-lines .is w q ∙ loan-is (h .flags) l (blocksFilled h (length bytes)) some c
+
+  -- and it is given only there
+  pub update-by-tables : ByTables (updated h bytes l .refusal)
+      → WellFormed h × (taken h + length bytes ≤ mostBytes) × (1 ≤ blocksFilled h (length bytes)) × (updated h bytes l .refusal ≡ tablesRefusal (h .flags) (l .tables))
+  update-by-tables o =
+      let n = numberOf (updated h bytes l .refusal) in
+      let k = update-lines .at-loan n _ (within (0 ∷ loanNumbers) bothNumbers n refl o) Iff·rfl .0 refl in
+      let g = loan-by-tables (h .flags) l (blocksFilled h (length bytes)) (ap (oneOf bothNumbers) (k .1 .1) ∙ o) in
+      (k .0, k .1 .0, g .0, update-lines .is (k .0) (k .1 .0) ∙ g .1)
+
+  -- 6 is never given where conditions are asked for, and 12 and 13 never where they are not: with detection off or in another setting
   pub update-never-6 : usesConditions (h .flags) ≡ true → numberOf (updated h bytes l .refusal) ≡ 6 → ⊥
   update-never-6 u e = never-6 (h .flags) l (blocksFilled h (length bytes)) u (update-6 .0 e .1 .1)
 
   pub update-never-conditions : usesConditions (h .flags) ≡ false → (n : ℕ) → oneOf conditionNumbers n ≡ true → numberOf (updated h bytes l .refusal) ≡ n → ⊥
-  update-never-conditions off n i e = never-given (h .flags) (l .tables) n off (update-conditions n i .0 e .1 .1)
+  update-never-conditions off n i e = never-given (h .flags) (l .tables) n off (update-conditions n i .0 e .1 .1 .1)
 
   pub update-only : oneOf (0 ∷ 1 ∷ 7 ∷ loanNumbers) (numberOf (updated h bytes l .refusal)) ≡ true
   update-only = within (0 ∷ 1 ∷ 7 ∷ loanNumbers) (1 ∷ 7 ∷ 0 ∷ loanNumbers) (numberOf (updated h bytes l .refusal)) refl (update-lines .among)
@@ -258,8 +310,9 @@ module _ (h : Hasher) (l : Loan) where
   unfolding finishRefusal
   finish-front = in-front (form-decides h) _ HasherForm _ (0 ∷ loanNumbers) finish-is (loan-only (h .flags) l (tailBlocks (h .fill))) refl
 
-  pub finish-0 : (outcomeNumber (finished h l .outcome) ≡ 0) ↔ (WellFormed h × GoodLoan (h .flags) l (tailBlocks (h .fill)))
-  finish-0 = finish-front .behind 0 _ refl (loan-0 (h .flags) l (tailBlocks (h .fill)))
+  pub finish-0 : (outcomeNumber (finished h l .outcome) ≡ 0)
+      ↔ (WellFormed h × (WellCounted (h .flags) l (tailBlocks (h .fill)) × GoodTables (h .flags) (l .tables)))
+  finish-0 = finish-front .behind 0 _ refl (some-0 (h .flags) l (tailBlocks (h .fill)) (tail-some (h .fill)))
 
   pub finish-1 : (outcomeNumber (finished h l .outcome) ≡ 1) ↔ (WellFormed h → ⊥)
   finish-1 = finish-front .at-own
@@ -269,24 +322,28 @@ module _ (h : Hasher) (l : Loan) where
 
   pub finish-table : (n : ℕ) → oneOf tableNumbers n ≡ true → (outcomeNumber (finished h l .outcome) ≡ n)
       ↔ (WellFormed h × (WellCounted (h .flags) l (tailBlocks (h .fill)) × VectorsGive (h .flags) (l .tables) n))
-  finish-table n t = finish-front .behind n _ (of-table n t) (loan-table (h .flags) l (tailBlocks (h .fill)) n t)
+  finish-table n t = finish-front .behind n _ (of-table n t) (some-table (h .flags) l (tailBlocks (h .fill)) (tail-some (h .fill)) n t)
 
   -- 12 and 13, where 6 would stand
   pub finish-conditions : (n : ℕ) → oneOf conditionNumbers n ≡ true
       → (outcomeNumber (finished h l .outcome) ≡ n) ↔ (WellFormed h × ConditionsGive (h .flags) (l .tables) n)
-  finish-conditions n i = finish-front .behind n _ (of-conditions n i) (loan-conditions (h .flags) l (tailBlocks (h .fill)) n i)
+  finish-conditions n i = finish-front .behind n _ (of-conditions n i) (some-conditions (h .flags) l (tailBlocks (h .fill)) (tail-some (h .fill)) n i)
 
   -- where the conditions are looked at and bad, what is wrong with them is what is given, number and place
   pub finish-gives-conditions : WellFormed h → usesConditions (h .flags) ≡ true → (GoodConditions (l .tables .conditions) → ⊥)
       → outcomeRefusal (finished h l .outcome) ≡ conditionFault (l .tables .conditions)
-  finish-gives-conditions w u b = finish-front .is w ∙ loan-gives-conditions (h .flags) l (tailBlocks (h .fill)) u b
+  finish-gives-conditions w u b = finish-front .is w ∙ loan-gives-conditions (h .flags) l (tailBlocks (h .fill)) (tail-some (h .fill)) u b
 
   -- where the table is looked at and the conditions pass, what is wrong with it is what is given, number and place
   pub finish-gives : WellFormed h → WellCounted (h .flags) l (tailBlocks (h .fill)) → ConditionsPass (h .flags) (l .tables .conditions)
       → h .flags .detect ≡ true → outcomeRefusal (finished h l .outcome) ≡ tableFault (l .tables .vectors)
-  finish-gives w c p d = finish-front .is w ∙ loan-gives (h .flags) l (tailBlocks (h .fill)) c p d
+  finish-gives w c p d = finish-front .is w ∙ loan-gives (h .flags) l (tailBlocks (h .fill)) (tail-some (h .fill)) c p d
 
-  -- 6 is never given where conditions are looked at, and 12 and 13 never where they are not: with detection off or in another setting
+  -- in short: where the masks are as many, what is wrong with the tables is what is given, number and place
+  pub finish-tables : WellFormed h → WellCounted (h .flags) l (tailBlocks (h .fill)) → outcomeRefusal (finished h l .outcome) ≡ tablesRefusal (h .flags) (l .tables)
+  finish-tables w c = finish-front .is w ∙ loan-is (h .flags) l (tailBlocks (h .fill)) (tail-some (h .fill)) c
+
+  -- 6 is never given where conditions are asked for, and 12 and 13 never where they are not: with detection off or in another setting
   pub finish-never-6 : usesConditions (h .flags) ≡ true → outcomeNumber (finished h l .outcome) ≡ 6 → ⊥
   finish-never-6 u e = never-6 (h .flags) l (tailBlocks (h .fill)) u (finish-6 .0 e .1)
 
@@ -314,8 +371,8 @@ module _ (h : Hasher) (size : ℕ) (l : Loan) where
   finish-reset-lines = lines h (negated (equal size digestSize)) Size l (tailBlocks (h .fill)) refl refl _ finish-reset-is
 
   pub finish-reset-0 : (outcomeNumber (finishedReset h size l .outcome) ≡ 0)
-      ↔ (WellFormed h × ((size ≡ digestSize) × GoodLoan (h .flags) l (tailBlocks (h .fill))))
-  finish-reset-0 = finish-reset-lines .at-loan 0 _ refl (loan-0 (h .flags) l (tailBlocks (h .fill)))
+      ↔ (WellFormed h × ((size ≡ digestSize) × (WellCounted (h .flags) l (tailBlocks (h .fill)) × GoodTables (h .flags) (l .tables))))
+  finish-reset-0 = finish-reset-lines .at-loan 0 _ refl (some-0 (h .flags) l (tailBlocks (h .fill)) (tail-some (h .fill)))
 
   pub finish-reset-1 : (outcomeNumber (finishedReset h size l .outcome) ≡ 1) ↔ (WellFormed h → ⊥)
   finish-reset-1 = finish-reset-lines .at-1
@@ -329,25 +386,30 @@ module _ (h : Hasher) (size : ℕ) (l : Loan) where
 
   pub finish-reset-table : (n : ℕ) → oneOf tableNumbers n ≡ true → (outcomeNumber (finishedReset h size l .outcome) ≡ n)
       ↔ (WellFormed h × ((size ≡ digestSize) × (WellCounted (h .flags) l (tailBlocks (h .fill)) × VectorsGive (h .flags) (l .tables) n)))
-  finish-reset-table n t = finish-reset-lines .at-loan n _ (of-table n t) (loan-table (h .flags) l (tailBlocks (h .fill)) n t)
+  finish-reset-table n t = finish-reset-lines .at-loan n _ (of-table n t) (some-table (h .flags) l (tailBlocks (h .fill)) (tail-some (h .fill)) n t)
 
   -- 12 and 13, where 6 would stand
   pub finish-reset-conditions : (n : ℕ) → oneOf conditionNumbers n ≡ true → (outcomeNumber (finishedReset h size l .outcome) ≡ n)
       ↔ (WellFormed h × ((size ≡ digestSize) × ConditionsGive (h .flags) (l .tables) n))
-  finish-reset-conditions n i = finish-reset-lines .at-loan n _ (of-conditions n i) (loan-conditions (h .flags) l (tailBlocks (h .fill)) n i)
+  finish-reset-conditions n i = finish-reset-lines .at-loan n _ (of-conditions n i) (some-conditions (h .flags) l (tailBlocks (h .fill)) (tail-some (h .fill)) n i)
 
   -- where the conditions are looked at and bad, what is wrong with them is what is given, number and place
   pub finish-reset-gives-conditions : WellFormed h → size ≡ digestSize → usesConditions (h .flags) ≡ true
       → (GoodConditions (l .tables .conditions) → ⊥) → outcomeRefusal (finishedReset h size l .outcome) ≡ conditionFault (l .tables .conditions)
-  finish-reset-gives-conditions w q u b = finish-reset-lines .is w q ∙ loan-gives-conditions (h .flags) l (tailBlocks (h .fill)) u b
+  finish-reset-gives-conditions w q u b = finish-reset-lines .is w q ∙ loan-gives-conditions (h .flags) l (tailBlocks (h .fill)) (tail-some (h .fill)) u b
 
   -- where the table is looked at and the conditions pass, what is wrong with it is what is given, number and place
   pub finish-reset-gives : WellFormed h → size ≡ digestSize → WellCounted (h .flags) l (tailBlocks (h .fill))
       → ConditionsPass (h .flags) (l .tables .conditions) → h .flags .detect ≡ true
       → outcomeRefusal (finishedReset h size l .outcome) ≡ tableFault (l .tables .vectors)
-  finish-reset-gives w q c p d = finish-reset-lines .is w q ∙ loan-gives (h .flags) l (tailBlocks (h .fill)) c p d
+  finish-reset-gives w q c p d = finish-reset-lines .is w q ∙ loan-gives (h .flags) l (tailBlocks (h .fill)) (tail-some (h .fill)) c p d
 
-  -- 6 is never given where conditions are looked at, and 12 and 13 never where they are not: with detection off or in another setting
+  -- in short: where the masks are as many, what is wrong with the tables is what is given, number and place
+  pub finish-reset-tables : WellFormed h → size ≡ digestSize → WellCounted (h .flags) l (tailBlocks (h .fill))
+      → outcomeRefusal (finishedReset h size l .outcome) ≡ tablesRefusal (h .flags) (l .tables)
+  finish-reset-tables w q c = finish-reset-lines .is w q ∙ loan-is (h .flags) l (tailBlocks (h .fill)) (tail-some (h .fill)) c
+
+  -- 6 is never given where conditions are asked for, and 12 and 13 never where they are not: with detection off or in another setting
   pub finish-reset-never-6 : usesConditions (h .flags) ≡ true → outcomeNumber (finishedReset h size l .outcome) ≡ 6 → ⊥
   finish-reset-never-6 u e = never-6 (h .flags) l (tailBlocks (h .fill)) u (finish-reset-6 .0 e .1 .1)
 
@@ -378,8 +440,9 @@ module _ (f : Flags) (bytes : List ℕ) (l : Loan) where
   whole-front =
       in-front (less mostBytes (length bytes)) _ MessageLength _ (0 ∷ loanNumbers) whole-is (loan-only f l (blocksOf (length bytes))) refl
 
-  pub whole-0 : (outcomeNumber (wholeOf f bytes l .outcome) ≡ 0) ↔ ((length bytes ≤ mostBytes) × GoodLoan f l (blocksOf (length bytes)))
-  whole-0 = whole-front .behind 0 _ refl (loan-0 f l (blocksOf (length bytes)))
+  pub whole-0 : (outcomeNumber (wholeOf f bytes l .outcome) ≡ 0)
+      ↔ ((length bytes ≤ mostBytes) × (WellCounted f l (blocksOf (length bytes)) × GoodTables f (l .tables)))
+  whole-0 = whole-front .behind 0 _ refl (some-0 f l (blocksOf (length bytes)) (blocks-some (length bytes)))
 
   pub whole-7 : (outcomeNumber (wholeOf f bytes l .outcome) ≡ 7) ↔ (mostBytes < length bytes)
   whole-7 = whole-front .at-own
@@ -389,24 +452,36 @@ module _ (f : Flags) (bytes : List ℕ) (l : Loan) where
 
   pub whole-table : (n : ℕ) → oneOf tableNumbers n ≡ true → (outcomeNumber (wholeOf f bytes l .outcome) ≡ n)
       ↔ ((length bytes ≤ mostBytes) × (WellCounted f l (blocksOf (length bytes)) × VectorsGive f (l .tables) n))
-  whole-table n t = whole-front .behind n _ (of-table n t) (loan-table f l (blocksOf (length bytes)) n t)
+  whole-table n t = whole-front .behind n _ (of-table n t) (some-table f l (blocksOf (length bytes)) (blocks-some (length bytes)) n t)
 
   -- 12 and 13, where 6 would stand
   pub whole-conditions : (n : ℕ) → oneOf conditionNumbers n ≡ true
       → (outcomeNumber (wholeOf f bytes l .outcome) ≡ n) ↔ ((length bytes ≤ mostBytes) × ConditionsGive f (l .tables) n)
-  whole-conditions n i = whole-front .behind n _ (of-conditions n i) (loan-conditions f l (blocksOf (length bytes)) n i)
+  whole-conditions n i = whole-front .behind n _ (of-conditions n i) (some-conditions f l (blocksOf (length bytes)) (blocks-some (length bytes)) n i)
 
   -- where the conditions are looked at and bad, what is wrong with them is what is given, number and place
   pub whole-gives-conditions : length bytes ≤ mostBytes → usesConditions f ≡ true → (GoodConditions (l .tables .conditions) → ⊥)
       → outcomeRefusal (wholeOf f bytes l .outcome) ≡ conditionFault (l .tables .conditions)
-  whole-gives-conditions s u b = whole-front .is s ∙ loan-gives-conditions f l (blocksOf (length bytes)) u b
+  whole-gives-conditions s u b = whole-front .is s ∙ loan-gives-conditions f l (blocksOf (length bytes)) (blocks-some (length bytes)) u b
 
   -- where the table is looked at and the conditions pass, what is wrong with it is what is given, number and place
   pub whole-gives : length bytes ≤ mostBytes → WellCounted f l (blocksOf (length bytes)) → ConditionsPass f (l .tables .conditions)
       → f .detect ≡ true → outcomeRefusal (wholeOf f bytes l .outcome) ≡ tableFault (l .tables .vectors)
-  whole-gives s c p d = whole-front .is s ∙ loan-gives f l (blocksOf (length bytes)) c p d
+  whole-gives s c p d = whole-front .is s ∙ loan-gives f l (blocksOf (length bytes)) (blocks-some (length bytes)) c p d
 
-  -- 6 is never given where conditions are looked at, and 12 and 13 never where they are not: with detection off or in another setting
+  -- in short: where the masks are as many, what is wrong with the tables is what is given, number and place
+  pub whole-tables : length bytes ≤ mostBytes → WellCounted f l (blocksOf (length bytes)) → outcomeRefusal (wholeOf f bytes l .outcome) ≡ tablesRefusal f (l .tables)
+  whole-tables s c = whole-front .is s ∙ loan-is f l (blocksOf (length bytes)) (blocks-some (length bytes)) c
+
+  -- and it is given only there
+  pub whole-by-tables : ByTables (outcomeRefusal (wholeOf f bytes l .outcome))
+      → (length bytes ≤ mostBytes) × (outcomeRefusal (wholeOf f bytes l .outcome) ≡ tablesRefusal f (l .tables))
+  whole-by-tables o =
+      let n = outcomeNumber (wholeOf f bytes l .outcome) in
+      let k = whole-front .behind n _ (within (0 ∷ loanNumbers) bothNumbers n refl o) Iff·rfl .0 refl in
+      (k .0, whole-front .is (k .0) ∙ loan-by-tables f l (blocksOf (length bytes)) (ap (oneOf bothNumbers) (k .1) ∙ o) .1)
+
+  -- 6 is never given where conditions are asked for, and 12 and 13 never where they are not: with detection off or in another setting
   pub whole-never-6 : usesConditions f ≡ true → outcomeNumber (wholeOf f bytes l .outcome) ≡ 6 → ⊥
   whole-never-6 u e = never-6 f l (blocksOf (length bytes)) u (whole-6 .0 e .1)
 
@@ -429,7 +504,7 @@ where-on A = (λ h. h refl, λ a e. a)
 with-on : (A : Type 0) → ((true ≡ true) × A) ↔ A
 with-on A = (λ h. h .1, λ a. (refl, a))
 
--- what is asked of conditions by flags that do not look at them, and of vectors by flags that do
+-- what is wanted of conditions by flags that do not ask for them, and of vectors by flags that do
 unlooked : (A : Type 0) → false ≡ true → A
 unlooked A e = absurd (false≢true e)
 

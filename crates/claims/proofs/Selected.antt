@@ -29,29 +29,25 @@ use Rattle.detect.specs.Detect.{selectionOf}
 use Rattle.fips.specs.Fips.{padded, initial}
 use Rattle.flags.specs.Flags.{usesConditions}
 use Rattle.flags.specs.declared.Flags.{Flags}
-use Rattle.loan.specs.Loan.{Tables, Loan, lookedAt, tablesRefusal}
-use Rattle.loan.proofs.Loans.{loan-accepted}
+use Rattle.loan.specs.Loan.{Tables, Loan, lookedAt}
 use Rattle.stream.specs.Fold.{allBits}
 use Rattle.hasher.specs.declared.Hasher.{Hasher}
 use Rattle.absorb.specs.Absorb.{streamOf}
 use Rattle.update.specs.Update.{updated}
 use Rattle.update.proofs.Taken.{update-taken}
 use Rattle.finish.specs.Finish.{finishRefusal, finished, finishedReset}
-use Rattle.finish.proofs.Finishing.{finish-finishing}
-use Rattle.fips.specs.Tail.{tailBlocks}
-use Rattle.one_shot.specs.Whole.{blocksOf, wholeRefusal, wholeOf}
-use Rattle.one_shot.proofs.Fed.{refusal-whole}
+use Rattle.one_shot.specs.Whole.{wholeRefusal, wholeOf}
 use Rattle.in_place.specs.InPlace.{InPlace}
-use Rattle.claims.specs.Sound.{Typed, TypedVectors, TypedConditions, VectorsGood}
+use Rattle.claims.specs.Sound.{Typed, TypedVectors, TypedConditions, VectorsGood, PassFor}
 use Rattle.claims.specs.Pieces.{Piece, bytesOf, hashed, loanOfAll, NoneRefused}
 use Rattle.claims.specs.Marked.{blockAt, maskFor, selectedAt, markedIn}
 use Rattle.claims.specs.Message.{MetInAt, OneMetIn}
 use Rattle.claims.specs.EveryCall.{MarkedAfter, lastBlocks, VerdictBy}
 use Rattle.claims.specs.Selected.{AllHoldOf, SelectedFor, MetBy, OneMetBy, MarkedAfterBy}
 use Rattle.claims.proofs.Unseen.{conditions-no-masks}
-use Rattle.claims.proofs.MetAlong.{looked-good, marked-in-at}
-use Rattle.claims.proofs.Piecewise.{taken-accepted}
-use Rattle.claims.proofs.Whole.{last-accepted}
+use Rattle.claims.proofs.Looked.{looked-good, update-passes, finish-passes, whole-passes}
+use Rattle.claims.proofs.MetAlong.{marked-in-at}
+use Rattle.claims.proofs.Whole.{tables-pass}
 use Rattle.claims.proofs.EveryCall.{decided-by, update-met, in-place-met, finish-met, finish-reset-met, whole-met, message-met}
 
 -- `and` of two bits is set exactly when both are
@@ -138,16 +134,16 @@ pub marked-by : (f : Flags) (l : Loan) (h : Regs) (xs : List ℕ) → Words h �
 marked-by f l h xs hw bytes vectors conditions on good i =
     Iff·trans (marked-in-at f l h xs hw bytes vectors on good i) (met-by f l xs i conditions good h)
 
--- so it is for one block of a stream, where the tables pass
-pub one-met-by : (f : Flags) (l : Loan) (h : Regs) (xs : List ℕ) → TypedConditions (l .tables) → tablesRefusal f (l .tables) ≡ Nothing
+-- so it is for one block of a stream, where the tables of a stream with a block pass
+pub one-met-by : (f : Flags) (l : Loan) (h : Regs) (xs : List ℕ) → TypedConditions (l .tables) → PassFor f l xs
     → ((f .detect ≡ true) × OneMetIn f l h xs) ↔ ((f .detect ≡ true) × OneMetBy f l h xs)
 one-met-by f l h xs conditions fine = (
-  λ k. let w = k .1 in (k .0, (w .0, w .1, met-by f l xs (w .0) conditions (looked-good f l fine (k .0)) h .0 (w .2))),
-  λ k. let w = k .1 in (k .0, (w .0, w .1, met-by f l xs (w .0) conditions (looked-good f l fine (k .0)) h .1 (w .2))),
+  λ k. let w = k .1 in (k .0, (w .0, w .1, met-by f l xs (w .0) conditions (looked-good f l xs fine (w .0) (w .1) (k .0)) h .0 (w .2))),
+  λ k. let w = k .1 in (k .0, (w .0, w .1, met-by f l xs (w .0) conditions (looked-good f l xs fine (w .0) (w .1) (k .0)) h .1 (w .2))),
 )
 
 -- and for a hasher's mark
-mark-by : (h : Hasher) (l : Loan) (xs : List ℕ) → TypedConditions (l .tables) → tablesRefusal (h .flags) (l .tables) ≡ Nothing
+mark-by : (h : Hasher) (l : Loan) (xs : List ℕ) → TypedConditions (l .tables) → PassFor (h .flags) l xs
     → MarkedAfter h l xs ↔ MarkedAfterBy h l xs
 mark-by h l xs conditions fine =
     let o = one-met-by (h .flags) l (regsOf (h .words)) xs conditions fine in
@@ -158,18 +154,17 @@ module _ (h : Hasher) (l : Loan) (typed : Typed h) (vectors : TypedVectors (l .t
   pub update-selected : (bytes : List ℕ) → AllBytes bytes → updated h bytes l .refusal ≡ Nothing
       → (updated h bytes l .hasher .mark ≡ true) ↔ MarkedAfterBy h l (streamOf h bytes)
   update-selected bytes b e =
-      Iff·trans (update-met h l typed vectors bytes b e) (mark-by h l (streamOf h bytes) conditions (taken-accepted h bytes l (update-taken h bytes l e) .good))
+      Iff·trans (update-met h l typed vectors bytes b e) (mark-by h l (streamOf h bytes) conditions (update-passes h bytes l (update-taken h bytes l e)))
 
   -- So does an update in place.
   pub in-place-selected : (bytes : List ℕ) → AllBytes bytes → (r : Refusal) (g : Hasher) → InPlace h bytes l r g → r ≡ Nothing
       → (g .mark ≡ true) ↔ MarkedAfterBy h l (streamOf h bytes)
   in-place-selected bytes b r g p e =
       Iff·trans (in-place-met h l typed vectors bytes b r g p e)
-      (mark-by h l (streamOf h bytes) conditions (taken-accepted h bytes l (update-taken h bytes l (sym (p .1) ∙ e)) .good))
+      (mark-by h l (streamOf h bytes) conditions (update-passes h bytes l (update-taken h bytes l (sym (p .1) ∙ e))))
 
   last-by : (size : ℕ) → finishRefusal h size l ≡ Nothing → MarkedAfter h l (lastBlocks h) ↔ MarkedAfterBy h l (lastBlocks h)
-  last-by size e =
-      mark-by h l (lastBlocks h) conditions (loan-accepted (h .flags) l (tailBlocks (h .fill)) (finish-finishing h size l e .loan) .good)
+  last-by size e = mark-by h l (lastBlocks h) conditions (λ some. finish-passes h size l e)
 
   -- A finish that is not refused gives its verdict by whether there was one or, with detection on, such a record meets one of the last blocks.
   pub finish-selected : finishRefusal h digestSize l ≡ Nothing → VerdictBy (finished h l .outcome) (h .flags .mitigate) (MarkedAfterBy h l (lastBlocks h))
@@ -185,11 +180,10 @@ pub whole-selected : (f : Flags) (bytes : List ℕ) (l : Loan) → AllBytes byte
     → wholeRefusal f (length bytes) l ≡ Nothing
     → VerdictBy (wholeOf f bytes l .outcome) (f .mitigate) ((f .detect ≡ true) × OneMetBy f l initial (padded bytes))
 whole-selected f bytes l b vectors conditions e =
-    let good = loan-accepted f l (blocksOf (length bytes)) (refusal-whole f (length bytes) l e .loan) .good in
-    decided-by (one-met-by f l initial (padded bytes) conditions good) (whole-met f bytes l b vectors e)
+    decided-by (one-met-by f l initial (padded bytes) conditions (λ some. whole-passes f (length bytes) l e)) (whole-met f bytes l b vectors e)
 
 -- So does a message under every cut, none of its calls refused, with one table of conditions throughout.
 pub message-selected : (f : Flags) (t : Tables) (ps : List Piece) (last : List ℕ) → AllBytes (bytesOf ps) → TypedVectors t → TypedConditions t → NoneRefused f t ps last
     → VerdictBy (hashed f t ps last .outcome) (f .mitigate) ((f .detect ≡ true) × OneMetBy f (loanOfAll t ps last) initial (padded (bytesOf ps)))
 message-selected f t ps last b vectors conditions ok =
-    decided-by (one-met-by f (loanOfAll t ps last) initial (padded (bytesOf ps)) conditions (last-accepted f t ps last ok .good)) (message-met f t ps last b vectors ok)
+    decided-by (one-met-by f (loanOfAll t ps last) initial (padded (bytesOf ps)) conditions (λ some. tables-pass f t ps last ok)) (message-met f t ps last b vectors ok)

@@ -278,11 +278,11 @@ lookup-settled t = (same (t .first .0) (t .second .0), same (t .first .1) (t .se
 pub masks-from-settled : (t : TwoResults 1 masks-from-kinds.ps masks-from-kinds.r masks-from-contract.Post) → t .x .now ≡ t .y .now
 masks-from-settled t = same (t .first) (t .second)
 
--- The masks that a call looks at: likewise.
+-- The masks that the flags ask for: likewise.
 pub looked-at-settled : (t : TwoResults 1 looked-at-kinds.ps looked-at-kinds.r looked-at-contract.Post) → t .x .now ≡ t .y .now
 looked-at-settled t = same (t .first) (t .second)
 
--- The conditions that a call looks at: likewise.
+-- The conditions that the flags ask for: likewise.
 pub conditions-for-settled : (t : TwoResults 1 conditions-for-kinds.ps conditions-for-kinds.r conditions-for-contract.Post) → t .x .now ≡ t .y .now
 conditions-for-settled t = same (t .first) (t .second)
 

@@ -9,7 +9,8 @@ use Rattle.verdict.specs.declared.Verdict.the-variants.{Ok, Mitigated, Collisio
 use Rattle.detect.specs.Detect.{answerOf}
 use Rattle.fips.specs.Fips.{padded, initial}
 use Rattle.flags.specs.declared.Flags.{Flags}
-use Rattle.loan.specs.Loan.{Tables, Loan, lend, lookedAt}
+use Rattle.loan.specs.Loan.{Tables, Loan, lookedAt}
+use Rattle.loan.proofs.Loans.{tables-good}
 use Rattle.stream.specs.Fold.{modeOf}
 use Rattle.finish.specs.declared.Outcome.the-variants.{Done}
 use Rattle.claims.specs.Sound.{TypedVectors, VectorsGood}
@@ -19,8 +20,8 @@ use Rattle.claims.specs.Message.{MetInAt, OneMetIn, MetAt, NoneMet, OneM
 use Rattle.claims.specs.EveryCall.{VerdictBy}
 use Rattle.claims.proofs.Along.{hash-words, initial-words, padded-bytes, block-bytes}
 use Rattle.claims.proofs.Demand3.{marked-exactly}
-use Rattle.claims.proofs.Whole.{last-accepted}
-use Rattle.claims.proofs.MetAlong.{with-detection, looked-good, marked-in-at}
+use Rattle.claims.proofs.Whole.{tables-pass}
+use Rattle.claims.proofs.MetAlong.{with-detection, marked-in-at}
 use Rattle.claims.proofs.EveryCall.{decided-by, message-met}
 
 module _ (f : Flags) (on : f .detect ≡ true) (off : f .reduced ≡ false) where
@@ -48,7 +49,7 @@ module _ (f : Flags) (on : f .detect ≡ true) (off : f .reduced ≡ false) wher
   module _ (t : Tables) (words : TypedVectors t) (ps : List Piece) (last : List ℕ) (bytes : AllBytes (bytesOf ps)) (ok : NoneRefused f t ps last) where
     verdict-met : VerdictBy (hashed f t ps last .outcome) (f .mitigate) (OneMet f (loanOfAll t ps last) (bytesOf ps))
     verdict-met =
-        let good = looked-good f (lend t last) (last-accepted f t ps last ok .good) on in
+        let good = tables-good f t (tables-pass f t ps last ok) .1 on in
         decided-by (one-alike (loanOfAll t ps last) words (bytesOf ps) bytes good) (message-met f t ps last bytes words ok)
 
     -- The verdict is ok exactly when for no block a selected sibling meets it, padding included.

@@ -11,7 +11,7 @@ use Rattle.fips.specs.Fips.{mostBytes, padded, digestOf}
 use Rattle.fips.specs.Tail.{tailBlocks}
 use Rattle.flags.specs.Flags.{usesMasks}
 use Rattle.flags.specs.declared.Flags.{Flags}
-use Rattle.loan.specs.Loan.{Tables, lend}
+use Rattle.loan.specs.Loan.{Tables, lend, tablesRefusal}
 use Rattle.stream.specs.Fold.{firstChain, blockOf, chained}
 use Rattle.stream.proofs.Folded.{folded-is}
 use Rattle.loan.proofs.Loans.{AcceptedLoan, loan-accepted}
@@ -27,7 +27,8 @@ use Rattle.claims.specs.Pieces.{Piece, bytesOf, pieceMasks, taking, hash
 use Rattle.claims.specs.Marked.{againBy, blocksIn, sha1Marked, markedAt}
 use Rattle.claims.proofs.Below.{anyBelow}
 use Rattle.claims.proofs.After.{words-then, mark-then}
-use Rattle.claims.proofs.Piecewise.{taken-accepted, pieces-taken, pieces-absorbed}
+use Rattle.claims.proofs.Looked.{taken-accepted, finish-passes}
+use Rattle.claims.proofs.Piecewise.{pieces-taken, pieces-absorbed}
 use Rattle.claims.proofs.Kept.{fresh-sound, pieces-flags}
 
 module _ (f : Flags) (t : Tables) where
@@ -59,6 +60,10 @@ module _ (f : Flags) (t : Tables) where
     last-accepted =
         let a = finish-finishing (taking f t ps .hasher) digestSize (lend t last) (ok .finish) .loan in
         loan-accepted f (lend t last) (tailBlocks (length (bytesOf ps) % 64)) (rw (pieces-flags (freshOf f) t ps, fill-is ps (ok .updates)) at a)
+
+    -- the tables pass, as the finish looks at them
+    pub tables-pass : tablesRefusal f t ≡ Nothing
+    tables-pass = rw (pieces-flags (freshOf f) t ps) at (finish-passes (taking f t ps .hasher) digestSize (lend t last) (ok .finish))
 
     last-chain : lastChain (taking f t ps .hasher) (lend t last) ≡ wholeChain f (bytesOf ps) (loanOfAll t ps last)
     unfolding wholeChain

@@ -1,6 +1,7 @@
 pub mod Sibling
 pub mod Sound
 pub mod Pieces
+pub mod Short
 pub mod Marked
 pub mod Refusals
 pub mod Settings

@@ -9,8 +9,11 @@ use Rattle.refusal.specs.declared.Refusal.{Refusal}
 use Rattle.refusal.specs.declared.Refusal.the-variants.{Nothing, HasherForm, Size}
 use Rattle.refusal.proofs.Passed.{passed}
 use Rattle.verdict.specs.Verdict.{digestSize}
+use Rattle.conditions.specs.Good.{GoodConditions}
 use Rattle.fips.specs.Tail.{tailBlocks}
-use Rattle.loan.specs.Loan.{Loan, loanRefusal}
+use Rattle.fips.proofs.Tails.{tail-some}
+use Rattle.loan.specs.Loan.{Loan, conditionsFor, loanRefusal}
+use Rattle.loan.proofs.Loans.{accepted-conditions}
 use Rattle.hasher.specs.Hasher.{wellFormed}
 use Rattle.hasher.specs.declared.Hasher.{Hasher}
 use Rattle.finish.specs.Finish.{finishRefusal}
@@ -35,3 +38,7 @@ module _ (h : Hasher) (size : ℕ) (l : Loan) where
   pub finishing-finish : Finishing h size l → finishRefusal h size l ≡ Nothing
   unfolding finishRefusal
   finishing-finish a = rw (a .well, eq-eqb size digestSize (a .sized), a .loan)
+
+  -- it looks at tables, as it compresses a block at least: what it looks at of the conditions is good
+  pub finishing-conditions : Finishing h size l → GoodConditions (conditionsFor (h .flags) (l .tables .conditions))
+  finishing-conditions a = accepted-conditions (h .flags) l (tailBlocks (h .fill)) (a .loan) (tail-some (h .fill))

@@ -27,6 +27,14 @@ rooms f false e h = let a = leb-false f 55 e in record { room = omega arith; nea
 pub tail-room : (f : ℕ) → f ≤ 63 → Room f (tailBlocks f)
 tail-room f h = rooms f (leb f 55) refl h
 
+-- there is one at least
+pub tail-some : (f : ℕ) → 1 ≤ tailBlocks f
+tail-some f = by (leb f 55)
+  where
+    by : (b : Bool) → 1 ≤ pick b 1 2
+    by true = omega arith
+    by false = omega arith
+
 pub bytes64-length : (x : ℕ) → length (bytes64 x) ≡ 8
 unfolding bytes64
 bytes64-length x = refl

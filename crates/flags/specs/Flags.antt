@@ -45,10 +45,10 @@ isConditions All = false
 isConditions Lent = false
 isConditions Conditions = true
 
--- whether a call looks at lent masks
+-- whether the flags ask for lent masks
 abbrev pub usesMasks : Flags → Bool
 usesMasks f = f .detect && isLent (f .masks)
 
--- whether a call looks at lent conditions
+-- whether they ask for lent conditions
 abbrev pub usesConditions : Flags → Bool
 usesConditions f = f .detect && isConditions (f .masks)

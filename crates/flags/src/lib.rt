@@ -109,7 +109,7 @@ fn is_conditions(masks: Masks) -> bool
     }
 }
 
-// Whether a call looks at lent masks.
+// Whether the flags ask for lent masks.
 pub fn uses_masks(f: Flags) -> bool
     ensures { λ r. ⌜ r ≡ usesMasks f ⌝ }
 {
@@ -120,7 +120,7 @@ pub fn uses_masks(f: Flags) -> bool
     false
 }
 
-// Whether a call looks at lent conditions.
+// Whether the flags ask for lent conditions.
 pub fn uses_conditions(f: Flags) -> bool
     ensures { λ r. ⌜ r ≡ usesConditions f ⌝ }
 {

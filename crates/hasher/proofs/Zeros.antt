@@ -1,14 +1,16 @@
 -- Lists of zeros, and lists that end in them. Assumes nothing.
 use mathlib.Core.Path.{_≡_, refl, ap, _∙_}
-use mathlib.Core.Bool.{true, false, _&&_}
+use mathlib.Core.Bool.{true, _&&_, and-assoc}
 use mathlib.Core.List.{List, [], _∷_}
 use Prim.Native.Nat.{ℕ, zero, suc, _+_, _-_, _≤_, _<_}
 use native.Mathlib.Numerals.{add-one}
-use borrow.Author.Tests.{eq-eqb, ne-eqb, eqb-true}
+use borrow.Author.Tests.{eqb-true}
+use lib.Bits.{bitOr}
 use lib.Dec.{eqb}
 use lib.ListN.{length, getD, drop, replicate, drop-of-length-le}
 use lib.Seq.{drop-cons}
 use Rattle.word.proofs.Tests.{both-true}
+use Rattle.word.proofs.Zero.{or-none}
 use Rattle.hasher.specs.Hasher.{allZero}
 
 pub zero-nil : allZero [] ≡ true
@@ -19,13 +21,11 @@ pub zero-cons : (x : ℕ) (xs : List ℕ) → allZero (x ∷ xs) ≡ (eqb x 0 &&
 unfolding allZero
 zero-cons x xs = refl
 
--- the turns of a loop that looks for a byte that is not zero, and its end
+-- a turn of a loop that puts together the bits of all bytes from a place on, and its end
 module _ (p : List ℕ) (i : ℕ) where
-  pub zero-stop : i < length p → (getD p i 0 ≡ 0 → ⊥) → allZero (drop i p) ≡ false
-  zero-stop h n = rw (drop-cons p i 0 h, zero-cons, ne-eqb (getD p i 0) 0 n)
-
-  pub zero-step : i < length p → getD p i 0 ≡ 0 → allZero (drop (i + 1) p) ≡ allZero (drop i p)
-  zero-step h e = rw (drop-cons p i 0 h, zero-cons, eq-eqb (getD p i 0) 0 e, add-one i)
+  pub zero-turn : (seen : ℕ) → i < length p → (eqb (bitOr seen (getD p i 0)) 0 && allZero (drop (i + 1) p)) ≡ (eqb seen 0 && allZero (drop i p))
+  zero-turn seen h =
+      rw (drop-cons p i 0 h, zero-cons, or-none seen (getD p i 0), add-one i) (and-assoc (eqb seen 0) (eqb (getD p i 0) 0) (allZero (drop (suc i) p)))
 
   pub zero-end : length p ≤ i → allZero (drop i p) ≡ true
   zero-end h = rw (drop-of-length-le p h, zero-nil)

@@ -81,17 +81,17 @@ impl Hasher {
     }
 }
 
-// Whether every byte from `from` on is 0.
+// Whether every byte from `from` on is 0. All are looked at: with no way out of the loop the compiler takes many at a time, and in
+// a hasher that a call made all are 0.
 fn zero_from(p: [u8; 64], from: usize) -> bool
     requires { ⌜ from ≤ 64 ⌝ }
     ensures { λ r. ⌜ r ≡ allZero (drop from p) ⌝ }
 {
+    let mut seen = 0u8;
     for i in from..64 {
-        if p[i] != 0 {
-            return false;
-        }
+        seen = seen | p[i];
     }
-    true
+    seen == 0
 }
 
 // Whether a mark fits where it was first made, as far as a hasher shows it.

@@ -1,8 +1,9 @@
--- What is lent to a call, and what is refused of it. 01, "The hasher" and "Numbers a caller can get back"; 02, request d.
+-- What is lent to a call, and what is refused of it. A call looks at what its flags ask for, and at the tables only where it compresses a block.
+-- 01, "The hasher" and "Numbers a caller can get back"; 02, requests d and f.
 use mathlib.Core.Path.{_≡_}
 use mathlib.Core.Bool.{Bool, true, not, _&&_}
 use mathlib.Core.List.{List, [], _∷_}
-use Prim.Native.Nat.{ℕ}
+use Prim.Native.Nat.{ℕ, _≤_}
 use lib.Dec.{eqb}
 use lib.ListN.{length, drop}
 use Rattle.word.specs.Choice.{pick}
@@ -42,23 +43,23 @@ loanOf vectors conditions masks = lend (tablesOf vectors conditions) masks
 abbrev pub later : ℕ → Loan → Loan
 later n l = lend (l .tables) (drop n (l .masks))
 
--- the masks that a call looks at: those lent, or none
+-- the masks that the flags ask for: those lent, or none
 abbrev pub lookedAt : Flags → List ℕ → List ℕ
 lookedAt f masks = pick (usesMasks f) masks []
 
--- the conditions that a call looks at: those lent, or none
+-- the conditions that they ask for: those lent, or none
 abbrev pub conditionsFor : Flags → List ℕ → List ℕ
 conditionsFor f conditions = pick (usesConditions f) conditions []
 
--- a wrong number of masks, where they are looked at: 6
+-- a wrong number of masks, where they are asked for: 6
 abbrev pub masksWrong : Flags → ℕ → ℕ → Bool
 masksWrong f k blocks = usesMasks f && not (eqb k blocks)
 
--- what is wrong with the conditions, where they are looked at: 12 and 13
+-- what is wrong with the conditions, where they are asked for: 12 and 13
 abbrev pub conditionsRefusal : Flags → List ℕ → Refusal
 conditionsRefusal f conditions = pick (usesConditions f) (conditionFault conditions) Nothing
 
--- what is wrong with the vectors, where they are looked at: 2 to 5
+-- what is wrong with the vectors, which detection asks for: 2 to 5
 abbrev pub vectorsRefusal : Flags → List ℕ → Refusal
 vectorsRefusal f vectors = pick (f .detect) (tableFault vectors) Nothing
 
@@ -66,9 +67,12 @@ vectorsRefusal f vectors = pick (f .detect) (tableFault vectors) Nothing
 abbrev pub tablesRefusal : Flags → Tables → Refusal
 tablesRefusal f t = firstOf (conditionsRefusal f (t .conditions)) (vectorsRefusal f (t .vectors))
 
--- what a call that compresses so many blocks refuses of what it is lent: the masks, then the tables
+-- what a call that compresses so many blocks refuses of what it is lent: the masks, then the tables, which are not looked at for no block
 unfoldable pub loanRefusal : Flags → Loan → ℕ → Refusal
-loanRefusal f l blocks = pick (masksWrong f (length (l .masks)) blocks) MaskCount (tablesRefusal f (l .tables))
+loanRefusal f l blocks =
+    pick (masksWrong f (length (l .masks)) blocks) MaskCount
+    (pick (eqb blocks 0) Nothing
+    (tablesRefusal f (l .tables)))
 
 -- the numbers that tables can give: those of the conditions, and those of the vectors
 abbrev pub bothNumbers : List ℕ
@@ -78,34 +82,34 @@ bothNumbers = 12 ∷ 13 ∷ tableNumbers
 abbrev pub loanNumbers : List ℕ
 loanNumbers = 6 ∷ bothNumbers
 
--- where masks are looked at, there is one for each block
+-- where masks are asked for, there is one for each block
 abbrev pub WellCounted : Flags → Loan → ℕ → Type 0
 WellCounted f l blocks = usesMasks f ≡ true → length (l .masks) ≡ blocks
 
--- 6: masks are looked at, and there is not one for each block
+-- 6: masks are asked for, and there is not one for each block
 abbrev pub Miscounted : Flags → Loan → ℕ → Type 0
 Miscounted f l blocks = (usesMasks f ≡ true) × (length (l .masks) ≡ blocks → ⊥)
 
--- where the conditions are looked at, they are good
+-- where the conditions are asked for, they are good
 abbrev pub ConditionsPass : Flags → List ℕ → Type 0
 ConditionsPass f conditions = usesConditions f ≡ true → GoodConditions conditions
 
--- where the vectors are looked at, they are good
+-- where the vectors are asked for, they are good
 abbrev pub VectorsPass : Flags → List ℕ → Type 0
 VectorsPass f vectors = f .detect ≡ true → GoodTable vectors
 
--- where the tables are looked at, they are good
+-- where the tables are asked for, they are good
 abbrev pub GoodTables : Flags → Tables → Type 0
 GoodTables f t = ConditionsPass f (t .conditions) × VectorsPass f (t .vectors)
 
--- 12 and 13: the conditions are looked at, and n is the number of what is wrong with them
+-- 12 and 13: the conditions are asked for, and n is the number of what is wrong with them
 abbrev pub ConditionsGive : Flags → Tables → ℕ → Type 0
 ConditionsGive f t n = (usesConditions f ≡ true) × (numberOf (conditionFault (t .conditions)) ≡ n)
 
--- 2 to 5: nothing is wrong with the conditions, the vectors are looked at, and n is the number of what is wrong with them
+-- 2 to 5: nothing is wrong with the conditions, the vectors are asked for, and n is the number of what is wrong with them
 abbrev pub VectorsGive : Flags → Tables → ℕ → Type 0
 VectorsGive f t n = ConditionsPass f (t .conditions) × (f .detect ≡ true) × (numberOf (tableFault (t .vectors)) ≡ n)
 
--- nothing is wrong with a loan for so many blocks
+-- nothing is wrong with a loan for so many blocks: the masks are as many, and for one block or more the tables are good
 abbrev pub GoodLoan : Flags → Loan → ℕ → Type 0
-GoodLoan f l blocks = WellCounted f l blocks × GoodTables f (l .tables)
+GoodLoan f l blocks = WellCounted f l blocks × (1 ≤ blocks → GoodTables f (l .tables))

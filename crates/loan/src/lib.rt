@@ -1,4 +1,4 @@
-// What is lent to a call: what it looks at of the masks and the conditions, and what it refuses.
+// What is lent to a call: what its flags ask for of the masks and the conditions, and what it refuses.
 ghost use mathlib.Core.Path.{_≡_};
 ghost use mathlib.Core.List.{[]};
 ghost use lib.ListN.{drop};
@@ -22,7 +22,7 @@ fn masks_wrong(f: Flags, k: usize, blocks: usize) -> bool
     false
 }
 
-// What is wrong with the conditions, where they are looked at.
+// What is wrong with the conditions, where they are asked for.
 fn conditions_refusal(f: Flags, conditions: &[u32]) -> Refusal
     ensures { λ r. ⌜ r ≡ conditionsRefusal f (now (conditions .entry)) ⌝ }
 {
@@ -32,7 +32,7 @@ fn conditions_refusal(f: Flags, conditions: &[u32]) -> Refusal
     Refusal::Nothing // they are not looked at
 }
 
-// What is wrong with the vectors, where they are looked at.
+// What is wrong with the vectors, where they are asked for.
 fn vectors_refusal(f: Flags, table: &[u32]) -> Refusal
     ensures { λ r. ⌜ r ≡ vectorsRefusal f (now (table .entry)) ⌝ }
 {
@@ -42,7 +42,7 @@ fn vectors_refusal(f: Flags, table: &[u32]) -> Refusal
     Refusal::Nothing // detection is off
 }
 
-// What is wrong with the tables, where they are looked at: the conditions come first.
+// What is wrong with the tables, where they are asked for: the conditions come first.
 fn tables_refusal(f: Flags, table: &[u32], conditions: &[u32]) -> Refusal
     ensures { λ r. ⌜ r ≡ tablesRefusal f (tablesOf (now (table .entry)) (now (conditions .entry))) ⌝ }
 {
@@ -66,6 +66,9 @@ pub fn loan_refusal(
     if masks_wrong(f, masks.len(), blocks) {
         return Refusal::MaskCount;
     }
+    if blocks == 0 {
+        return Refusal::Nothing; // a short update must not pay for the tables
+    }
     tables_refusal(f, table, conditions)
 }
 
@@ -80,7 +83,7 @@ pub fn masks_from<'a>(masks: &'a [u32], n: usize) -> &'a [u32]
     &masks[k..]
 }
 
-// What is lent, where it is looked at, else nothing.
+// What is lent, where it is asked for, else nothing.
 fn only_if<'a>(on: bool, lent: &'a [u32]) -> &'a [u32]
     ensures { λ r. ⌜ now r ≡ pick on (now (lent .entry)) [] ⌝ }
 {
@@ -90,14 +93,14 @@ fn only_if<'a>(on: bool, lent: &'a [u32]) -> &'a [u32]
     &lent[0..0]
 }
 
-// The masks that a call looks at: those lent, or none.
+// The masks that the flags ask for: those lent, or none.
 pub fn looked_at<'a>(f: Flags, masks: &'a [u32]) -> &'a [u32]
     ensures { λ r. ⌜ now r ≡ lookedAt f (now (masks .entry)) ⌝ }
 {
     only_if(uses_masks(f), masks)
 }
 
-// The conditions that a call looks at: those lent, or none.
+// The conditions that the flags ask for: those lent, or none.
 pub fn conditions_for<'a>(f: Flags, conditions: &'a [u32]) -> &'a [u32]
     ensures { λ r. ⌜ now r ≡ conditionsFor f (now (conditions .entry)) ⌝ }
 {

@@ -1,4 +1,5 @@
--- A verdict is said only for a message that was read to its end, and a failed read is said to be one. Assumes nothing.
+-- A verdict is said only for a message that was read to its end, a failed read is said to be one, and what is wrong with the table is said whatever
+-- the message. Assumes nothing.
 use mathlib.Core.Path.{_≡_, refl, sym, ap, _∙_}
 use mathlib.Core.Bool.{Bool, true, false, false≢true}
 use mathlib.Core.List.{List, []}
@@ -106,7 +107,13 @@ module _ (args : List Argument) (files : ℕ → File) (reads : List Read) where
   reply-with b (unasked t) = rw (b, t)
   reply-with b (checked t g k) = rw (b, t, g, k)
 
-  -- Then a read that fails is said to be 16 where nothing was refused before.
+  -- The table is checked first: if something is wrong with the file that they name, the reply is that, to all reads of the message, to none too.
+  pub table-first : {file : List ℕ} → settingRead args .bad ≡ false → settingRead args .table ≡ true → fileGiven args files ≡ holds file
+      → isNothing (fileFault file) ≡ false → programReply args files reads ≡ some (withoutDigest (SayRefused (fileFault file)))
+  unfolding programReply replyWithContents
+  table-first b t g k = rw (b, t, g, k)
+
+  -- With nothing wrong, a read that fails is said to be 16 where nothing was refused before.
   pub reply-failed : {table : List ℕ} → settingRead args .bad ≡ false → TableOf (settingRead args) (fileGiven args files) table
       → (e : Ends reads) → Passed (freshOf (flagsOf (settingRead args))) table e → below0 (e .last .got) ≡ true → programReply args files reads ≡ some (withoutDigest Unread)
   reply-failed b t e p u = reply-with b t ∙ failed-says (flagsOf (settingRead args)) _ reads e p u

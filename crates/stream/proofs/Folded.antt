@@ -39,13 +39,18 @@ block-counts true mode table conditions c block mask = refl
 block-counts false mode table conditions c block mask = refl
 
 module _ (f : Flags) (l : Loan) (c : Chain) where
-  -- a chain whose mark fits where it was made stays so, if the vectors that are looked at are good
-  pub folded-mark : (xs : List ℕ) → VectorsPass f (l .tables .vectors) → MarkRight (f .detect) c → MarkRight (f .detect) (folded f l c xs)
-  unfolding folded
-  folded-mark xs good =
-      chained-keeps (blockOf f (l .tables)) (MarkRight (f .detect))
-      (mark-right (f .detect) (modeOf f) (l .tables .vectors) (conditionsFor f (l .tables .conditions)) (λ d. good d .most))
-      (length xs / 64) c xs (lookedAt f (l .masks))
+  -- a chain whose mark fits where it was made stays so, if for a block at least the vectors that are looked at are good
+  pub folded-mark : (xs : List ℕ) → (1 ≤ length xs / 64 → VectorsPass f (l .tables .vectors)) → MarkRight (f .detect) c → MarkRight (f .detect) (folded f l c xs)
+  unfolding folded chained
+  folded-mark xs = by (length xs / 64)
+    where
+      by : (n : ℕ) → (1 ≤ n → VectorsPass f (l .tables .vectors)) → MarkRight (f .detect) c
+          → MarkRight (f .detect) (chained (blockOf f (l .tables)) n c xs (lookedAt f (l .masks)))
+      by zero good = λ right. right
+      by (suc n) good =
+          chained-keeps (blockOf f (l .tables)) (MarkRight (f .detect))
+          (mark-right (f .detect) (modeOf f) (l .tables .vectors) (conditionsFor f (l .tables .conditions)) (λ d. good (omega arith) d .most))
+          (suc n) c xs (lookedAt f (l .masks))
 
   pub folded-blocks : (xs : List ℕ) → folded f l c xs .blocks ≡ c .blocks + length xs / 64
   unfolding folded

@@ -1,34 +1,32 @@
 -- The test of the rule, one word at a time, and what it says of each word. Assumes nothing.
 use mathlib.Core.Path.{_≡_, refl}
 use mathlib.Core.Logic.{_↔_, ⊎-elim}
-use mathlib.Core.Bool.{true, false, true≢false}
+use mathlib.Core.Bool.{true, false, _&&_, true≢false, and-assoc}
 use mathlib.Core.List.{List}
 use Prim.Native.Nat.{ℕ, zero, suc, _+_, _-_, _≤_, _<_}
 use native.Mathlib.Nat.{eq-or-lt-of-le}
 use native.Mathlib.Numerals.{add-one}
 use native.Mathlib.Omega.{arith}
+use lib.Bits.{bitOr, bitXor}
 use lib.Dec.{eqb}
 use lib.ListN.{getD}
-use borrow.Author.Tests.{eq-eqb, ne-eqb, eqb-true, eqb-false}
+use borrow.Author.Tests.{eq-eqb, eqb-true, eqb-false}
 use Rattle.word.specs.Rule.{ruleAt}
 use Rattle.table.specs.Limits.{dmWords}
 use Rattle.table.specs.Table.{obeysFrom, obeys}
 use Rattle.table.specs.Good.{Obeys, Breaks}
 use Rattle.word.proofs.Tests.{both-true, one-false, unless-true}
+use Rattle.word.proofs.Zero.{or-none, xor-none}
 
--- the turns of the loop up to place n
+-- a turn of the loop up to place n, which puts together the bits by which the words are off, and its end
 module _ (dm : List ℕ) (t n : ℕ) where
-  pub obeys-more : t < n → getD dm t 0 ≡ ruleAt dm t → obeysFrom dm t (n - t) ≡ obeysFrom dm (t + 1) (n - (t + 1))
+  pub obeys-turn : (off : ℕ) → t < n
+      → (eqb (bitOr off (bitXor (getD dm t 0) (ruleAt dm t))) 0 && obeysFrom dm (t + 1) (n - (t + 1))) ≡ (eqb off 0 && obeysFrom dm t (n - t))
   unfolding obeysFrom
-  obeys-more h e =
+  obeys-turn off h =
       let k : n - t ≡ suc (n - (t + 1)) = omega arith in
-      rw (k, add-one t, eq-eqb (getD dm t 0) (ruleAt dm t) e)
-
-  pub obeys-not : t < n → (getD dm t 0 ≡ ruleAt dm t → ⊥) → obeysFrom dm t (n - t) ≡ false
-  unfolding obeysFrom
-  obeys-not h e =
-      let k : n - t ≡ suc (n - (t + 1)) = omega arith in
-      rw (k, ne-eqb (getD dm t 0) (ruleAt dm t) e)
+      rw (k, add-one t, or-none off (bitXor (getD dm t 0) (ruleAt dm t)), xor-none (getD dm t 0) (ruleAt dm t))
+      (and-assoc (eqb off 0) (eqb (getD dm t 0) (ruleAt dm t)) _)
 
   pub obeys-done : n ≤ t → obeysFrom dm t (n - t) ≡ true
   unfolding obeysFrom

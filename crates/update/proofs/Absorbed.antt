@@ -52,6 +52,7 @@ module _ (h : Hasher) (bytes : List ℕ) (l : Loan) where
     formed-after =
         let s = streamOf h bytes in
         let fits = a .fits in
+        let n = stream-long (h .pending) bytes (h .fill) long (sure .fill-le) in
         rw (absorbed-is h bytes l)
         (at-formed (h .flags) (chainAfter h bytes l) (restOf s) (omega (arith, rest-length s)) (omega (arith, counted))
-        (folded-mark (h .flags) l (chainOf h) s (tables-good (h .flags) (l .tables) (loan-accepted (h .flags) l _ (a .loan) .good) .1) (sure .mark-fits)))
+        (folded-mark (h .flags) l (chainOf h) s (λ some. tables-good (h .flags) (l .tables) (loan-accepted (h .flags) l _ (a .loan) .good (omega (arith, n))) .1) (sure .mark-fits)))

@@ -3,6 +3,7 @@ pub mod Rotate
 pub mod Rounds
 pub mod Sums
 pub mod Xor
+pub mod Zero
 pub mod Tests
 pub mod Below
 pub mod Fill

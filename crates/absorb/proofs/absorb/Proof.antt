@@ -26,18 +26,6 @@ counted c = ap (λ (x : Chain). x .blocks) (c .chain .ensures)
 chain-requires : tie.Need-chain-requires
 chain-requires c κs = search needs
 
-advance-requires : tie.Need-advance-requires
-advance-requires c κs =
-    let z = c .before .before .before .before .before .before .before in
-    let p = z .pre in
-    (omega (arith, p .fits, counted (c .before)), p .selects)
-
-returns : tie.Need-returns
-unfolding absorbed
-returns c =
-    let m = c .before .before in
-    rw (c .advance .ensures, m .chain .ensures, c .before .if1 .taken)
-
 sub-room : tie.Need-sub-room
 sub-room c = search needs
 
@@ -46,7 +34,7 @@ slice-aggregate-store c = search needs
 
 store-requires : tie.Need-store-requires
 store-requires c κs =
-    let z = c .before .before .before .before .before .before .before .before .before .before in
+    let z = c .before .before .before .before .before .before .before .before .before in
     let l = sizes z .0 in
     (omega arith, omega arith)
 
@@ -56,11 +44,11 @@ add-at c = search needs
 at-requires : tie.Need-at-requires
 at-requires c κs = search needs
 
-returns-2 : tie.Need-returns-2
+returns : tie.Need-returns
 unfolding absorbed
-returns-2 c =
+returns c =
     let s = c .before .before in
-    let k = s .before .before .before .before .before in
+    let k = s .before .before .before .before in
     let z = k .before .before .before .before .before .before in
     let h = z .args .h in
     let d = z .args .bytes .now in
@@ -74,6 +62,17 @@ returns-2 c =
       pend-more (h .pending) d (h .fill) l (z .pre .fill-le) (z .pre .zeros) (omega arith),
       e,
     )
+
+advance-requires : tie.Need-advance-requires
+advance-requires c κs =
+    let k = c .before .before .before in
+    let z = k .before .before .before .before .before .before in
+    let p = z .pre in
+    (omega (arith, p .fits, counted k), p .selects (omega arith))
+
+returns-2 : tie.Need-returns-2
+unfolding absorbed
+returns-2 c = rw (c .advance .ensures, c .before .before .before .before .chain .ensures, c .before .if2 .taken)
 
 slice-aggregate-store-2 : tie.Need-slice-aggregate-store-2
 slice-aggregate-store-2 c = search needs
@@ -92,7 +91,7 @@ fold-blocks-requires c κs =
     let k = c .before .before .before .before .before .before .before in
     let z = k .before .before .before .before .before .before in
     let l : length (c .before .before .store2 .last .0) ≡ 64 = search needs in
-    (omega (arith, z .pre .fits, counted k), z .pre .selects)
+    (omega (arith, z .pre .fits, counted k), z .pre .selects (omega arith))
 
 sub-advance : tie.Need-sub-advance
 sub-advance c = search needs
@@ -115,7 +114,7 @@ advance-requires-2 c κs =
     let d = z .args .bytes .now in
     let l : length (s .store2 .last .0) ≡ 64 = search needs in
     let e = ap (λ (x : Chain). x .blocks) (f .fold-blocks .ensures) ∙ folded-blocks _ _ _ _ in
-    (rw (tail-is d (64 - z .args .h .fill)) (omega (arith, z .pre .fits, z .pre .fill-le, counted k, e, length-drop (64 - z .args .h .fill) d)), z .pre .selects)
+    (rw (tail-is d (64 - z .args .h .fill)) (omega (arith, z .pre .fits, z .pre .fill-le, counted k, e, length-drop (64 - z .args .h .fill) d)), z .pre .selects (omega arith))
 
 returns-3 : tie.Need-returns-3
 unfolding absorbed
@@ -145,13 +144,13 @@ absorb-spec =
     tie.close
     (tie.spec
     chain-requires
-    advance-requires
-    returns
     sub-room
     slice-aggregate-store
     store-requires
     add-at
     at-requires
+    returns
+    advance-requires
     returns-2
     slice-aggregate-store-2
     store-requires-2

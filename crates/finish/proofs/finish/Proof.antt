@@ -1,8 +1,7 @@
 -- `finish::finish` meets its contract. Assumes nothing.
 use Rattle.refusal.proofs.Chains.{nothing-is}
-use Rattle.loan.proofs.Loans.{accepted-conditions}
 use Rattle.finish.specs.Finish.{finished}
-use Rattle.finish.proofs.Finishing.{tested, finish-finishing}
+use Rattle.finish.proofs.Finishing.{tested, finish-finishing, finishing-conditions}
 use borrow.Author.Needs.{needs}
 use Rattle.finish.proofs.finish.Statement.{statement}
 use Rattle.finish.proofs.finish.Tie as tie
@@ -17,7 +16,7 @@ last-chain-requires : tie.Need-last-chain-requires
 last-chain-requires c κs =
     let r = c .before .before in
     let f = finish-finishing _ _ _ (nothing-is _ (tested (r .finish-refusal .ensures) (c .before .is-nothing .ensures) (c .if1 .taken))) in
-    (f .well, accepted-conditions _ _ _ (f .loan))
+    (f .well, finishing-conditions _ _ _ f)
 
 verdict-of-requires : tie.Need-verdict-of-requires
 verdict-of-requires c κs = search needs

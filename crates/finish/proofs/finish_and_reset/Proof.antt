@@ -5,9 +5,8 @@ use lib.ListN.{length}
 use Rattle.octets.proofs.Stored.{stored-n}
 use Rattle.fips.proofs.Tails.{digest-length}
 use Rattle.refusal.proofs.Chains.{nothing-is}
-use Rattle.loan.proofs.Loans.{accepted-conditions}
 use Rattle.finish.specs.Finish.{finishedReset, writtenOut}
-use Rattle.finish.proofs.Finishing.{tested, finish-finishing}
+use Rattle.finish.proofs.Finishing.{tested, finish-finishing, finishing-conditions}
 use borrow.Author.Needs.{needs}
 use Rattle.finish.proofs.finish_and_reset.Statement.{statement}
 use Rattle.finish.proofs.finish_and_reset.Tie as tie
@@ -22,7 +21,7 @@ last-chain-requires : tie.Need-last-chain-requires
 last-chain-requires c κs =
     let r = c .before .before in
     let f = finish-finishing _ _ _ (nothing-is _ (tested (r .finish-refusal .ensures) (c .before .is-nothing .ensures) (c .if1 .taken))) in
-    (f .well, accepted-conditions _ _ _ (f .loan))
+    (f .well, finishing-conditions _ _ _ f)
 
 digest-requires : tie.Need-digest-requires
 digest-requires c κs = search needs

@@ -2,11 +2,10 @@
 use lib.ListN.{length}
 use Rattle.refusal.proofs.Chains.{nothing-is}
 use Rattle.loan.specs.Loan.{loanOf}
-use Rattle.loan.proofs.Loans.{accepted-conditions}
 use Rattle.update.proofs.Absorbed.{flags-after}
 use Rattle.finish.proofs.Finishing.{tested}
 use Rattle.one_shot.specs.Whole.{wholeOf}
-use Rattle.one_shot.proofs.Fed.{Whole, refusal-whole, whole-vectors, whole-ready, fed-formed, fed-chain}
+use Rattle.one_shot.proofs.Fed.{Whole, refusal-whole, whole-vectors, whole-conditions, whole-ready, fed-formed, fed-chain}
 use borrow.Author.Needs.{needs}
 use Rattle.one_shot.proofs.whole.Statement.{statement}
 use Rattle.one_shot.proofs.whole.Tie as tie
@@ -28,7 +27,7 @@ new-requires : tie.Need-new-requires
 new-requires c κs = search needs
 
 absorb-requires : tie.Need-absorb-requires
-absorb-requires c κs = rw (c .new .ensures) (let p = passed (c .before) in whole-ready _ _ _ (p .short) (accepted-conditions _ _ _ (p .loan)))
+absorb-requires c κs = rw (c .new .ensures) (let p = passed (c .before) in whole-ready _ _ _ (p .short) (whole-conditions _ _ _ p))
 
 masks-from-requires : tie.Need-masks-from-requires
 masks-from-requires c κs = search needs
@@ -37,7 +36,7 @@ last-chain-requires : tie.Need-last-chain-requires
 last-chain-requires c κs =
     let b = c .before in
     let p = passed (b .before .before) in
-    rw (b .absorb .ensures, b .before .new .ensures) (fed-formed _ _ _ (p .short) (whole-vectors _ _ _ p), rw (flags-after _ _ _) (accepted-conditions _ _ _ (p .loan)))
+    rw (b .absorb .ensures, b .before .new .ensures) (fed-formed _ _ _ (p .short) (whole-vectors _ _ _ p), rw (flags-after _ _ _) (whole-conditions _ _ _ p))
 
 verdict-of-requires : tie.Need-verdict-of-requires
 verdict-of-requires c κs = search needs

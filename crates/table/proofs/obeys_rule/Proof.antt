@@ -1,27 +1,30 @@
--- `table::obeys_rule` meets its contract. The invariant: the words still to be looked at decide. Assumes nothing.
-use mathlib.Core.Path.{_≡_, refl, sym, _∙_}
+-- `table::obeys_rule` meets its contract. The invariant: no word is off so far and those still to be looked at obey,
+-- just where all do. Assumes nothing.
+use mathlib.Core.Path.{_≡_, refl, sym, ap, _∙_}
+use mathlib.Core.Bool.{_&&_, and-true}
 use Prim.Native.Nat.{_-_, _≤_}
 use borrow.Author.Needs.{needs}
+use lib.Dec.{eqb}
 use Rattle.table.specs.Limits.{dmWords}
 use Rattle.table.specs.Table.{obeysFrom, obeys}
-use Rattle.table.proofs.Rule.{obeys-more, obeys-not, obeys-done}
+use Rattle.table.proofs.Rule.{obeys-turn, obeys-done}
 use Rattle.table.proofs.obeys_rule.Statement.{statement}
 use Rattle.table.proofs.obeys_rule.Tie as tie
 
 abbrev Inv-loop : tie.InvT-loop
-Inv-loop dm t₀ t = (16 ≤ t) × (obeysFrom dm t (dmWords - t) ≡ obeys dm)
+Inv-loop dm off₀ t₀ off t = (16 ≤ t) × ((eqb off 0 && obeysFrom dm t (dmWords - t)) ≡ obeys dm)
 
 abbrev μ-loop : tie.MeasureT-loop
-μ-loop dm t₀ t = dmWords - t
+μ-loop dm off₀ t₀ off t = dmWords - t
 
 loop-holds : tie.Need-loop-holds Inv-loop μ-loop
 loop-holds c = (search needs, refl)
 
-mul-if1 : tie.Need-mul-if1 Inv-loop μ-loop
-mul-if1 c = search needs
+mul-off : tie.Need-mul-off Inv-loop μ-loop
+mul-off c = search needs
 
-shared-slice-read-if1 : tie.Need-shared-slice-read-if1 Inv-loop μ-loop
-shared-slice-read-if1 c = search needs
+shared-slice-read-off : tie.Need-shared-slice-read-off Inv-loop μ-loop
+shared-slice-read-off c = search needs
 
 sub-mix : tie.Need-sub-mix Inv-loop μ-loop
 sub-mix c = search needs
@@ -62,12 +65,6 @@ shared-slice-read-mix-4 c = search needs
 mix-requires : tie.Need-mix-requires Inv-loop μ-loop
 mix-requires c κs = search needs
 
-returns : tie.Need-returns Inv-loop μ-loop
-returns c =
-    let h = c .before .before .before .before .before .before .before .before in
-    let dm = h .before .before .args .dm .now in
-    sym (obeys-not dm (h .loop .t) dmWords (search needs) (λ e. c .if1 .taken (e ∙ sym (c .before .mix .ensures)))) ∙ h .loop .inv .1
-
 add-t : tie.Need-add-t Inv-loop μ-loop
 add-t c = search needs
 
@@ -76,14 +73,14 @@ loop-less c = search needs
 
 loop-again : tie.Need-loop-again Inv-loop μ-loop
 loop-again c =
-    let h = c .before .before .before .before .before .before .before .before in
+    let h = c .before .before .before .before .before .before .before in
     let dm = h .before .before .args .dm .now in
-    (search needs, sym (obeys-more dm (h .loop .t) dmWords (search needs) (c .if1 .left ∙ c .before .mix .ensures)) ∙ h .loop .inv .1)
+    (search needs, rw (c .mix .ensures) (obeys-turn dm (h .loop .t) dmWords (h .loop .off) (search needs)) ∙ h .loop .inv .1)
 
-returns-2 : tie.Need-returns-2 Inv-loop μ-loop
-returns-2 c =
+returns : tie.Need-returns Inv-loop μ-loop
+returns c =
     let h = c .before in
-    sym (obeys-done (h .before .before .args .dm .now) (h .loop .t) dmWords (search needs)) ∙ h .loop .inv .1
+    sym (and-true (eqb (h .loop .off) 0)) ∙ ap (_&&_ (eqb (h .loop .off) 0)) (sym (obeys-done (h .before .before .args .dm .now) (h .loop .t) dmWords (search needs))) ∙ h .loop .inv .1
 
 pub obeys-rule-spec : {M : Type 1} → statement M
 obeys-rule-spec =
@@ -92,8 +89,8 @@ obeys-rule-spec =
     Inv-loop
     μ-loop
     loop-holds
-    mul-if1
-    shared-slice-read-if1
+    mul-off
+    shared-slice-read-off
     sub-mix
     mul-mix
     shared-slice-read-mix
@@ -107,8 +104,7 @@ obeys-rule-spec =
     mul-mix-4
     shared-slice-read-mix-4
     mix-requires
-    returns
     add-t
     loop-less
     loop-again
-    returns-2)
+    returns)

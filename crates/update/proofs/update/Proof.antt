@@ -1,5 +1,6 @@
 -- `update::update` meets its contract. Assumes nothing.
 use mathlib.Core.Path.{_≡_, sym, ap, _∙_}
+use native.Mathlib.Omega.{arith}
 use Rattle.refusal.specs.Refusal.{isNothing}
 use Rattle.update.specs.Update.{updateRefusal, updated}
 use Rattle.loan.specs.Loan.{loanOf}
@@ -27,7 +28,7 @@ absorb-requires c κs =
     let a = c .before .before .before .before .before .before .before .args in
     let r = update-taken (a .h) (a .bytes .now) (loanOf (a .table .now) (a .conditions .now) (a .masks .now)) (refusal-is _ _ _ ∙ nothing-is _ (sym (tested (c .before)) ∙ c .if1 .taken)) in
     let f = formed (a .h) (r .well) in
-    record { fill-le = f .fill-le; zeros = f .zeros; fits = r .fits; selects = accepted-conditions _ _ _ (r .loan) }
+    record { fill-le = f .fill-le; zeros = f .zeros; fits = r .fits; selects = λ some. accepted-conditions _ _ _ (r .loan) (omega (arith, some)) }
 
 returns : tie.Need-returns
 unfolding updated

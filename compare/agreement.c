@@ -8,16 +8,17 @@
 
 /* Everything that a call is lent, and the lengths that it is told. Memory is there for one element more. */
 static struct lent {
-    uint32_t words[6], after[6], table[82], conditions[12], mask[1], verdict;
+    uint32_t words[6], after[6], table[164], conditions[12], mask[1], verdict;
     uint64_t flags, state[7], answer[5];
     uint8_t pending[65], bytes[1], digest[21], block[64], sheet[32], code[12];
-    size_t five, five_after, sixty_four, six, twenty, two, four, condition_words, byte_count, mask_count;
+    size_t five, five_after, sixty_four, six, twenty, two, four, table_words, condition_words, byte_count, mask_count;
 } m;
 
 static void fresh(void)
 {
     memset(&m, 0, sizeof m);
-    m.table[1] = 58; /* the control record */
+    m.table[1] = m.table[83] = 58; /* the control record, and a second one of the same mask number, which is lent to some calls */
+    m.table_words = 82;
     m.state[3] = 1;
     m.verdict = 1;
     m.five = m.five_after = 5;
@@ -31,7 +32,7 @@ static void fresh(void)
 }
 
 #define HASHER m.words, m.five, m.pending, m.sixty_four, m.state, m.six
-#define TABLE m.table, 82
+#define TABLE m.table, m.table_words
 #define CONDITIONS m.conditions, m.condition_words
 #define NO_MASKS m.mask, 0
 #define ANSWER m.answer, m.two
@@ -177,18 +178,21 @@ static void beginnings(void)
     }
 }
 
+/* The calls that look at a table. */
+enum { LOOKING = 6 };
+static const struct { const char *name; uint32_t (*call)(void); int hasher; } looking[LOOKING] = {
+    { "one_block", one_block, 0 }, { "update", update, 1 }, { "finish", finish, 1 },
+    { "finish_and_reset", finish_and_reset, 1 }, { "one_shot", one_shot, 0 }, { "table_fault", table_fault, 0 } };
+
 static void refusals(void)
 {
-    static const struct { const char *name; uint32_t (*call)(void); int hasher; } calls[] = {
-        { "one_block", one_block, 0 }, { "update", update, 1 }, { "finish", finish, 1 },
-        { "finish_and_reset", finish_and_reset, 1 }, { "one_shot", one_shot, 0 }, { "table_fault", table_fault, 0 } };
-    for (size_t i = 0; i < sizeof calls / sizeof *calls; i++) {
+    for (size_t i = 0; i < LOOKING; i++) {
         filled();
         m.table[0] = 32;
-        refused(calls[i].name, calls[i].call, 3);
+        refused(looking[i].name, looking[i].call, 3);
         filled();
         m.state[0] = 64;
-        if (calls[i].hasher) refused(calls[i].name, calls[i].call, 1);
+        if (looking[i].hasher) refused(looking[i].name, looking[i].call, 1);
     }
     filled();
     m.state[0] = 64;
@@ -223,6 +227,22 @@ static void expect(const char *name, uint64_t said, uint64_t wanted)
     if (said == wanted) return;
     wrong++;
     printf("  %s gave %d, not %d\n", name, (int)said, (int)wanted);
+}
+
+/* Two control records of one mask number are refused by 11 with the place of the second, two of different numbers are not. */
+static void repeated(void)
+{
+    for (size_t i = 0; i < LOOKING; i++)
+        for (uint32_t number = 0; number < 32; number++) {
+            filled();
+            m.table_words = 164;
+            m.table[0] = m.table[82] = number;
+            refused(looking[i].name, looking[i].call, 11);
+            looking[i].call();
+            expect("the place of the one that repeats", m.answer[looking[i].call == one_block ? 3 : 1], 1);
+            m.table[82] = number ^ 1;
+            expect(looking[i].name, looking[i].call(), 0);
+        }
 }
 
 /* One call on conditions of which the second is bad in its word n, or which are so many words: the number and the place. */
@@ -264,14 +284,15 @@ static void conditions(void)
  * more, and it is refused by them. */
 static void short_updates(void)
 {
-    static const struct { uint64_t flags; uint32_t number; } settings[] = { { 1, 3 }, { 5, 3 }, { 17, 12 } };
-    for (size_t i = 0; i < 3; i++)
+    static const struct { uint64_t flags; uint32_t number; } settings[] = { { 1, 3 }, { 5, 3 }, { 17, 12 }, { 1, 11 } };
+    for (size_t i = 0; i < 4; i++)
         for (size_t fill = 0; fill < 64; fill++) {
             const int lent = settings[i].flags == 5;
             filled();
             m.state[0] = fill;
             m.state[3] = settings[i].flags;
-            m.table[0] = 32;
+            if (settings[i].number == 11) m.table_words = 164;
+            else m.table[0] = 32;
             m.condition_words = 11;
             m.byte_count = 63 - fill;
             m.mask_count = 1;
@@ -453,6 +474,7 @@ int main(void)
     m.verdict = 0;
     broken("compare", compare);
     refusals();
+    repeated();
     beginnings();
     answers();
     structs();

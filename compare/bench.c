@@ -66,10 +66,11 @@ static size_t words_in(const struct line *l, int i, uint32_t *words, size_t most
 
 struct borrowed { uint32_t table[TABLE_WORDS], masks[64], conditions[CONDITION_WORDS]; };
 
-/* The first words of 33 control records of which two words are changed, the masks, and the conditions. */
+/* The first words of 33 control records, each with its place as its mask number, of which two words are changed; the masks; and the
+ * conditions. */
 static struct purserumble_loan loan_of(const struct line *l, struct borrowed *b)
 {
-    for (size_t i = 0; i < TABLE_WORDS; i++) b->table[i] = i % 82 == 1 ? 58 : 0;
+    for (size_t i = 0; i < TABLE_WORDS; i++) b->table[i] = i % 82 == 0 ? i / 82 : i % 82 == 1 ? 58 : 0;
     for (int i = 2; i <= 4; i += 2) {
         if (number_in(l, i) >= TABLE_WORDS) stop("no such word of the table");
         b->table[number_in(l, i)] = number_in(l, i + 1);

@@ -91,7 +91,7 @@ uint32_t purserumble_finish_and_reset(uint32_t *words, size_t five, uint8_t *pen
 uint32_t purserumble_one_shot(const uint8_t *bytes, size_t bytes_len, uint8_t *digest, size_t twenty,
     const uint32_t *table, size_t table_len, const uint32_t *masks, size_t masks_len, uint64_t *answer, size_t four);
 
-/* answer (2): 0, the refused record's place. */
+/* answer (2): 0, the refused record's place; with 11 that of the first record whose mask number an earlier one has. */
 uint32_t purserumble_table_fault(const uint32_t *table, size_t table_len, uint64_t *answer, size_t two);
 
 /* answer (2): 0, the refused condition's place. */
@@ -111,8 +111,8 @@ uint32_t purserumble_compare(const uint8_t *sheet, size_t sheet_len, const uint8
 /* A hasher. Copy it freely: it holds no pointer. */
 struct purserumble_hasher { uint32_t words[5]; uint8_t pending[64]; uint64_t state[6]; };
 
-/* What is lent to one call: the words of a table, 82 for each record; the masks; the words of a table of conditions, 6 for
- * each. The conditions stand last so that a loan written without them has none. */
+/* What is lent to one call: the words of a table, 82 for each record, no two records with the same mask number; the masks; the
+ * words of a table of conditions, 6 for each. The conditions stand last so that a loan written without them has none. */
 struct purserumble_loan {
     const uint32_t *table; size_t table_words;
     const uint32_t *masks; size_t mask_count;

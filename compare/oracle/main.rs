@@ -3,13 +3,13 @@
 //! Built with `sha1_whole` it is the Rust as it ships, which is asked only with its own table and its own conditions.
 //!
 //! The Rust refuses nothing. Where a request lies outside of what it can be asked (a block that is not 64 bytes, a
-//! table that the Rust could not hold, masks too few or too many, a hasher that no call makes), the answer is
-//! `unknown`, and the hasher stays as it was. It has no checks of tables and conditions and no sheet either.
+//! table that the Rust could not hold or that gives a bit two records, masks too few or too many, a hasher that no call
+//! makes), the answer is `unknown`, and the hasher stays as it was. It has no checks of tables and conditions and no sheet either.
 
 use digest::{FixedOutputReset, Reset, Update};
 use rust::{CollisionResult, Sha1};
 use shape::{First, State};
-use std::collections::HashMap;
+use std::collections::{HashMap, HashSet};
 use std::io::Write;
 
 struct In<'a>(&'a [u8]);
@@ -77,7 +77,7 @@ impl Out {
     }
 }
 
-/// Which slots hold a table that the Rust could have as its own, and which hold conditions.
+/// Which slots hold a table as the Rust has one, a bit of its own for each record, and which hold conditions.
 #[derive(Default)]
 struct Tables {
     tables: HashMap<u32, bool>,
@@ -93,7 +93,8 @@ impl Tables {
                 let dm = &r[2..];
                 let rule = |t: usize| dm[t] == (dm[t - 3] ^ dm[t - 8] ^ dm[t - 14] ^ dm[t - 16]).rotate_left(1);
                 r[0] < 32 && (r[1] == 58 || r[1] == 65) && (16..80).all(rule)
-            });
+            })
+            && words.chunks(82).map(|r| r[0]).collect::<HashSet<_>>().len() == words.len() / 82;
         self.tables.insert(slot, good);
         let there = |c: &[u32]| c[0].max(c[2]) < 80 && c[1].max(c[3]) < 32 && c[4] < 2;
         let suit = words.len() % 6 == 0 && words.len() <= 6 * 512 && words.chunks(6).all(there);

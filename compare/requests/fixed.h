@@ -180,20 +180,24 @@ static void longest(void)
 /* The order of refusals: everything wrong at once, then one thing less at a time. */
 static void orders(void)
 {
+    static const int tables[4] = { NO_TABLE, BAD, BAD + 1, CONTROL };
     uint32_t words[5] = { 5, 4, 3, 2, 1 };
     uint8_t pending[64] = { 0 };
     pool[BAD] = pool[REAL];
     pool[BAD].good = 0;
+    pool[BAD + 1] = pool[BAD];
     pool[BAD].w[RECORD * 7] = 99;
+    pool[BAD + 1].w[RECORD * 31] = 0;
     send_table(BAD);
+    send_table(BAD + 1);
     two_unfit();
     for (int flags = 0; flags < 32; flags++)
         for (int well = 0; well < 2; well++)
-            for (int slot = 0; slot < 9; slot++)
+            for (int slot = 0; slot < 12; slot++)
                 for (int wrong = -1; wrong < 2; wrong++)
                     for (int much = 0; much < 2; much++) {
-                        int lent = slot % 3 == 0 ? NO_TABLE : slot % 3 == 1 ? BAD : CONTROL;
-                        lent_conditions = slot / 3 == 0 ? UNFIT : slot / 3 == 1 ? UNFIT + 1 : NONE;
+                        int lent = tables[slot % 4];
+                        lent_conditions = slot / 4 == 0 ? UNFIT : slot / 4 == 1 ? UNFIT + 1 : NONE;
                         pending[63] = !well;
                         begin(words, pending, 10, ((uint64_t)1 << 55) - 1, 0, flags);
                         update(lent, pattern, much ? 54 : 53, NULL, wrong);
@@ -203,12 +207,11 @@ static void orders(void)
                         end();
                     }
     lent_conditions = NONE;
-    for (int slot = 0; slot < 3; slot++)
+    for (int slot = 0; slot < 4; slot++)
         for (int wrong = -1; wrong < 2; wrong++)
             for (int n = 0; n < 130; n++) {
-                int lent = slot == 0 ? NO_TABLE : slot == 1 ? BAD : CONTROL;
-                one_shot(lent, pattern, n, NULL, wrong);
-                send_block(words, lent, wrong, MITIGATE, pattern, n);
+                one_shot(tables[slot], pattern, n, NULL, wrong);
+                send_block(words, tables[slot], wrong, MITIGATE, pattern, n);
             }
     for (int n = 0; n < 65; n++) {
         memset(pending, 0, 64);
@@ -218,14 +221,15 @@ static void orders(void)
     }
 }
 
-enum { SPOILT = 6 };
+enum { SPOILT = 7 };
 
-/* The crate's own table with something wrong in the first record, the last or one between, too short, too long, or empty. */
+/* The crate's own table with something wrong in the first record, the last or one between, with the first one's mask number in the
+ * last, too short, too long, or empty. */
 static void spoilt_tables(void)
 {
     static const struct { size_t at; uint32_t more; size_t len; } ways[SPOILT] = {
         { RECORD * 7, 32, RECORD * MOST }, { RECORD * 31 + 1, 1, RECORD * MOST }, { RECORD - 1, 1, RECORD * MOST },
-        { 0, 0, RECORD * MOST - 1 }, { 0, 0, RECORD * (MOST + 1) }, { 0, 0, 0 } };
+        { RECORD * 31, -31, RECORD * MOST }, { 0, 0, RECORD * MOST - 1 }, { 0, 0, RECORD * (MOST + 1) }, { 0, 0, 0 } };
     for (int i = 0; i < SPOILT; i++) {
         pool[BAD + i] = pool[REAL];
         pool[BAD + i].good = 0;
@@ -315,13 +319,15 @@ static void try_table(const uint32_t *w, size_t len)
     in_two(DETECT, BAD, pattern);
 }
 
-/* Three good records, with each word damaged in turn, and each length of their words; then the largest tables. */
+/* Three good records, with each word damaged in turn, and each length of their words; then the largest tables. A bit turned in a
+ * mask number may make it another record's. */
 static void damaged_tables(void)
 {
+    static const uint32_t numbers[3] = { 6, 7, 22 };
     static struct table t;
     seed = 5;
     t.len = 3 * RECORD;
-    for (int i = 0; i < 3; i++) some_record(t.w + RECORD * i);
+    for (int i = 0; i < 3; i++) some_record(t.w + RECORD * i, numbers[i]);
     for (size_t i = 0; i < t.len; i++)
         for (int turn = 0; turn < 4; turn++) {
             uint32_t kept = t.w[i];
@@ -354,12 +360,12 @@ static void record_heads(void)
         }
 }
 
-/* Each pair of faults, in the order of their places. */
+/* Each pair of faults, in the order of their places; the fourth is the mask number of the third record. */
 static void pairs_of_faults(void)
 {
     static struct table t;
-    for (int a = 0; a < 4; a++)
-        for (int b = 0; b < 4; b++)
+    for (int a = 0; a < 5; a++)
+        for (int b = 0; b < 5; b++)
             for (int at = 0; at < 3; at++) {
                 for (int i = 0; i < 3; i++) control(t.w + RECORD * i, i, 58);
                 uint32_t *r[2] = { t.w + RECORD * at, t.w + RECORD * ((at + 1) % 3) };
@@ -368,9 +374,62 @@ static void pairs_of_faults(void)
                     if (fault[i] == 1) r[i][0] = 32;
                     if (fault[i] == 2) r[i][1] = 64;
                     if (fault[i] == 3) r[i][2 + 40] = 1;
+                    if (fault[i] == 4) r[i][0] = (at + 2) % 3;
                 }
                 if (a == b) r[0][1] = 0, r[0][20] = 1;
                 try_table(t.w, 3 * RECORD);
+            }
+}
+
+/* The crate's own table, in which each record takes the mask number of each other, or is it once more; and with the numbers in
+ * another order. */
+static void pasted_records(void)
+{
+    static struct table t;
+    for (int from = 0; from < MOST; from++)
+        for (int to = 0; to < MOST; to++)
+            for (int otherwise = 0; otherwise < 2; otherwise++) {
+                t = pool[REAL];
+                for (int i = 0; otherwise && i < MOST; i++) t.w[RECORD * i] = (11 * i + 5) % MOST;
+                memcpy(t.w + RECORD * to, t.w + RECORD * from, (from + to) % 4 ? 4 : 4 * RECORD);
+                try_table(t.w, t.len);
+            }
+}
+
+/* A few control records, with each mask number one of four in every way; then up to 33 that are all alike. */
+static void repeated_controls(void)
+{
+    static const uint32_t numbers[4] = { 0, 1, 30, 31 };
+    static struct table t;
+    for (int n = 1; n <= 5; n++)
+        for (int way = 0; way < 1 << 2 * n; way++) {
+            for (int i = 0; i < n; i++) control(t.w + RECORD * i, numbers[way >> 2 * i & 3], way % 3 ? 58 : 65);
+            try_table(t.w, RECORD * n);
+        }
+    for (int n = 2; n <= MOST + 1; n++)
+        for (int which = 0; which < 4; which++) {
+            for (int i = 0; i < n; i++) control(t.w + RECORD * i, numbers[which], 58);
+            try_table(t.w, RECORD * n);
+        }
+}
+
+/* Four records, of which one repeats another's mask number, and one is bad in each way or has too few words: before the two, between
+ * them, behind them, or one of them. */
+static void repeats_and_faults(void)
+{
+    static struct table t;
+    for (int pair = 0; pair < 16; pair++)
+        for (int bad = 0; bad < 4; bad++)
+            for (int fault = 0; fault < 5; fault++) {
+                uint32_t *r = t.w + RECORD * bad;
+                for (int i = 0; i < 4; i++) control(t.w + RECORD * i, 31 - i, 65);
+                t.w[RECORD * (pair / 4)] = t.w[RECORD * (pair % 4)];
+                if (fault == 1) r[0] = 32;
+                if (fault == 2) r[1] = 64;
+                if (fault == 3) r[2 + 79] = 1;
+                if (fault == 4) r[0] = t.w[RECORD * ((bad + 1) % 4)] = 32;
+                try_table(t.w, 4 * RECORD);
+                try_table(t.w, 4 * RECORD - 1);
             }
 }
 
@@ -456,15 +515,16 @@ static uint32_t *masks_from(int first, uint32_t from_there, int alone)
     return list;
 }
 
-/* The crate's records with a control record at a place, one with the same mask number behind it and one with another. */
+/* The crate's records with a control record at a place, one behind it and one at the end. That at the place has mask number 5, and the
+ * numbers go on from there. */
 static void table_with_controls(int slot, int place)
 {
     struct table *t = &pool[slot];
     *t = pool[REAL];
-    for (int i = 0; i < MOST; i++) t->w[RECORD * i] = i % 2 ? 7 : 9;
+    for (int i = 0; i < MOST; i++) t->w[RECORD * i] = (MOST + i - place + 5) % MOST;
     control(t->w + RECORD * place, 5, 58);
-    if (place + 1 < MOST) control(t->w + RECORD * (place + 1), 5, 65);
-    if (place + 2 < MOST) control(t->w + RECORD * (MOST - 1), 6, 65);
+    if (place + 1 < MOST) control(t->w + RECORD * (place + 1), 6, 65);
+    if (place + 2 < MOST) control(t->w + RECORD * (MOST - 1), (MOST - 1 - place + 5) % MOST, 65);
     send_table(slot);
 }
 
@@ -497,12 +557,12 @@ static void first_marked(size_t len, int first, uint32_t chosen, int alone, int 
 }
 
 /* Messages of up to four blocks and a padding of one or two, of which each is the first that is marked, or none. The masks select
- * the control record at the place alone, with others before it, or with all. */
+ * the control record at the place alone, with its neighbours, or with all. */
 static void first_marks(void)
 {
     static const int ends[5] = { 0, 1, 55, 56, 63 };
     static const int places[5] = { 0, 1, 17, 30, 31 };
-    static const uint32_t chosen[3] = { 1 << 5, 1 << 5 | 1 << 7, 0xffffffff };
+    static const uint32_t chosen[3] = { 1 << 5, 1 << 5 | 1 << 4 | 1 << 6, 0xffffffff };
     for (int p = 0; p < 5; p++) {
         table_with_controls(GOOD, places[p]);
         for (int n = 0; n < 25; n++) {
@@ -598,6 +658,9 @@ static void fixed_requests(const char *data)
     damaged_tables();
     record_heads();
     pairs_of_faults();
+    pasted_records();
+    repeated_controls();
+    repeats_and_faults();
     published_files();
     nist_messages(data, 0);
     schoolbook_messages();

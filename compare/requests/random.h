@@ -2,9 +2,8 @@
 
 /* ---- Tables ---- */
 
-static void some_record(uint32_t *r)
+static void some_record(uint32_t *r, uint32_t number)
 {
-    uint32_t number = below(32);
     control(r, number, one_in(2) ? 58 : 65);
     if (one_in(5)) return; /* the control record */
     if (one_in(3)) turn_word(r + 2, 16); /* a single bit */
@@ -23,19 +22,31 @@ static int some_count(void)
     }
 }
 
+/* All mask numbers, in an order by chance. */
+static const uint32_t *some_numbers(void)
+{
+    static uint32_t numbers[MOST];
+    for (int i = 0; i < MOST; i++) {
+        int at = below(i + 1);
+        numbers[i] = numbers[at];
+        numbers[at] = i;
+    }
+    return numbers;
+}
+
 static void some_table(struct table *t)
 {
     int n = some_count();
+    const uint32_t *numbers = some_numbers();
     t->len = RECORD * n;
     t->good = 1;
-    for (int i = 0; i < n; i++) some_record(t->w + RECORD * i);
+    for (int i = 0; i < n; i++) some_record(t->w + RECORD * i, numbers[i]);
     /* Often without a control record, so that every selected record is tried. */
     if (one_in(2))
         for (int i = 0; i < n; i++) {
             t->w[RECORD * i + 2] ^= chance();
             extend(t->w + RECORD * i + 2);
         }
-    if (one_in(4)) for (int i = 0; i < n; i++) t->w[RECORD * i] = t->w[0]; /* one number for all */
 }
 
 static void damage(struct table *t)
@@ -51,17 +62,33 @@ static void damage(struct table *t)
     t->good = 0;
 }
 
+/* Some of two records or more take the mask number of another, or are that one once more. No number comes in by this, so one at
+ * least repeats an earlier one's. */
+static void repeat(struct table *t)
+{
+    int n = t->len / RECORD;
+    for (int times = one_in(6) ? n : 1 + (int)below(3); times > 0; times--) {
+        int from = below(n), to = (from + 1 + below(n - 1)) % n;
+        memcpy(t->w + RECORD * to, t->w + RECORD * from, one_in(3) ? 4 * RECORD : 4);
+    }
+    t->good = 0;
+}
+
 static void some_bad_table(struct table *t)
 {
-    some_table(t);
+    do some_table(t); while (t->len == RECORD && one_in(2));
     t->good = 0;
-    switch (below(8)) {
+    switch (below(12)) {
     case 0: t->len = 0; return;
     case 1: t->len -= 1 + below(RECORD - 1); return;
     case 2: t->len += 1 + below(RECORD - 1); return;
     case 3:
         t->len = RECORD * (MOST + 1 + below(3));
-        for (size_t i = 0; i < t->len / RECORD; i++) some_record(t->w + RECORD * i);
+        for (size_t i = 0; i < t->len / RECORD; i++) { uint32_t number = below(MOST); some_record(t->w + RECORD * i, number); }
+        return;
+    case 4: case 5: case 6: case 7:
+        if (t->len > RECORD) repeat(t);
+        if (t->len == RECORD || one_in(3)) damage(t);
         return;
     default:
         for (int n = 1 + below(3); n > 0; n--) damage(t);
@@ -195,8 +222,11 @@ static void some_pair(void)
     uint32_t words[5];
     some_table(t);
     uint32_t *r = t->w + RECORD * below(t->len / RECORD), number = r[0];
+    if (one_in(2)) number = p->record[0];
+    for (uint32_t *other = t->w; other < t->w + t->len; other += RECORD)
+        if (other[0] == number) other[0] = r[0]; /* so that the numbers stay different */
     memcpy(r, p->record, 4 * RECORD);
-    if (one_in(2)) r[0] = number;
+    r[0] = number;
     send_table(GOOD);
     memcpy(block, p->block, 64);
     memcpy(words, p->words, 20);

@@ -111,24 +111,39 @@ static struct found checked_block(uint32_t words[5], const uint8_t *block, const
     return found;
 }
 
-/* ---- The table check: 2, then for the first bad record 3, 4 or 5 ---- */
+/* ---- The table check: 2, then for the first bad record 3, 4 or 5, then 11 for the first that repeats a mask number ---- */
+
+static uint32_t record_fault(const uint32_t *record)
+{
+    const uint32_t *dm = record + 2;
+    if (record[0] > 31) return 3;
+    if (record[1] != 58 && record[1] != 65) return 4;
+    for (int t = 16; t < 80; t++)
+        if (dm[t] != rotl(dm[t - 3] ^ dm[t - 8] ^ dm[t - 14] ^ dm[t - 16], 1)) return 5;
+    return 0;
+}
+
+/* Whether one of the records before it has the mask number of record i. */
+static int repeats(const uint32_t *table, size_t i)
+{
+    for (size_t j = 0; j < i; j++)
+        if (table[RECORD * j] == table[RECORD * i]) return 1;
+    return 0;
+}
 
 static uint32_t table_fault(const uint32_t *table, size_t len, uint64_t *place)
 {
     *place = 0;
     if (len == 0 || len % RECORD != 0 || len > RECORD * MOST_RECORDS) return 2;
     for (size_t i = 0; i < len / RECORD; i++) {
-        const uint32_t *record = table + RECORD * i, *dm = record + 2;
-        uint32_t fault = 0;
-        if (record[0] > 31) fault = 3;
-        else if (record[1] != 58 && record[1] != 65) fault = 4;
-        else
-            for (int t = 16; t < 80; t++)
-                if (dm[t] != rotl(dm[t - 3] ^ dm[t - 8] ^ dm[t - 14] ^ dm[t - 16], 1)) fault = 5;
-        if (fault) {
-            *place = i;
-            return fault;
-        }
+        uint32_t fault = record_fault(table + RECORD * i);
+        if (fault) *place = i;
+        if (fault) return fault;
+    }
+    for (size_t i = 0; i < len / RECORD; i++) {
+        if (!repeats(table, i)) continue;
+        *place = i;
+        return 11;
     }
     return 0;
 }

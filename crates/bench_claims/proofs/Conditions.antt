@@ -1,4 +1,4 @@
--- Conditions as part of a lane call, 02's request d: 12 and 13 exactly when, behind 10, and an update's 2 to 5 behind them; demand 3 with "selected" by
+-- Conditions as part of a lane call, 02's request d: 12 and 13 exactly when, behind 10, and an update's 2 to 5 and 11 behind them; demand 3 with "selected" by
 -- the surviving bits, for each call and for a lane's message; that what is not looked at changes nothing; and that both settings agree on lanes too.
 -- Assumes nothing.
 use mathlib.Core.Path.{_≡_, refl, sym, _∙_, subst}
@@ -55,7 +55,7 @@ module _ (bench : List Hasher) (lane : ℕ) (l : Loan) where
     lane-update-conditions n i =
         Iff·trans (lane-update-line bench lane bytes l n (not-10 n i)) (Iff·and Iff·rfl (update-conditions (laneOf bench lane) bytes l n i))
 
-    -- 2 to 5 likewise, behind them.
+    -- 2 to 5 and 11 likewise, behind them.
     pub lane-update-table : (n : ℕ) → oneOf tableNumbers n ≡ true → (numberOf (laneUpdateRefusal bench lane bytes l) ≡ n)
         ↔ (LaneThere bench lane × (WellFormed (laneOf bench lane)
         × ((taken (laneOf bench lane) + length bytes ≤ mostBytes)

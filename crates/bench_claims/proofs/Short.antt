@@ -41,7 +41,7 @@ module _ (bench : List Hasher) (lane : ℕ) (bytes : List ℕ) (short : Short (l
   unfolding onLane
   lane-short t u masks = let e = short-update (laneOf bench lane) bytes short t u masks in (rw e, rw e)
 
-  -- It is refused by none of 2 to 5, 12 and 13.
+  -- It is refused by none of 2 to 5, 11, 12 and 13.
   pub lane-short-unlooked : (l : Loan) → ByTables (laneUpdateRefusal bench lane bytes l) → ⊥
   lane-short-unlooked l o =
       let n = numberOf (laneUpdateRefusal bench lane bytes l) in

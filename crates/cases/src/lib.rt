@@ -199,12 +199,13 @@ pub fn front_bytes(t: &[u8], n: usize) -> &[u8]
     t
 }
 
-// 33 control records, each with mask number 0 and test step 58.
+// 33 control records, each with its place as its mask number, and test step 58.
 fn controls() -> [u32; MOST_TABLE]
     ensures { λ r. ⌜ 2706 ≡ length r ⌝ }
 {
     let mut t = [0u32; MOST_TABLE];
     for i in 0..33 {
+        t[82 * i] = i as u32;
         t[82 * i + 1] = 58;
     }
     t

@@ -1,4 +1,4 @@
--- The control record is valid: its difference words obey the rule, and a table of it alone is good. One condition that names it keeps it where it
+-- The control record is valid: its difference words obey the rule, it is good in any table, and a table of it alone is good. One condition that names it keeps it where it
 -- holds, and drops it where not. Assumes nothing.
 use mathlib.Core.Path.{_≡_, refl}
 use mathlib.Core.Logic.{_⊎_, ⊎-elim, _↔_}
@@ -11,18 +11,19 @@ use lib.Dec.{lit<}
 use lib.ListN.{replicate}
 use Rattle.word.specs.Word.{rotl}
 use Rattle.word.specs.Lists.{AllWords}
-use Rattle.refusal.specs.Refusal.{isNothing}
+use Rattle.refusal.specs.Refusal.{isNothing, firstFrom}
 use Rattle.refusal.proofs.Chains.{nothing-is}
 use Rattle.step.specs.Step.{Words}
 use Rattle.step.specs.declared.Regs.{Regs}
 use Rattle.block.specs.Schedule.{wordsOf, scheduleOf}
 use Rattle.table.specs.Limits.{dmWords, maskBits}
-use Rattle.table.specs.Table.{obeysFrom, obeys, recordFault, faultFrom, tableFault}
-use Rattle.table.specs.Good.{GoodTable}
+use Rattle.table.specs.Bits.{bitAt, hasBit}
+use Rattle.table.specs.Table.{maskNumberAt, testWordAt, dmAt, obeysFrom, obeys, recordFault, among, repeatFault, tableFault}
+use Rattle.table.specs.Good.{Known, GoodRecord, GoodTable}
+use Rattle.table.proofs.Rule.{rule-true}
 use Rattle.table.proofs.Good.{accepted}
-use Rattle.conditions.specs.Survivors.{bitAt}
 use Rattle.conditions.specs.Conditions.{holdsAt}
-use Rattle.search.specs.Marks.{hasBit, selects}
+use Rattle.search.specs.Marks.{selects}
 use Rattle.search.proofs.Ended.{marked-some}
 use Rattle.detect.specs.Detect.{selectionOf, answerOf}
 use Rattle.detect.specs.declared.Mode.{Mode}
@@ -38,9 +39,13 @@ unfolding obeysFrom rotl
 control-obeys = refl
 
 no-fault : (k t : ℕ) → k < maskBits → (t ≡ 58) ⊎ (t ≡ 65) → isNothing (tableFault (controlTable k t)) ≡ true
-unfolding tableFault faultFrom recordFault
+unfolding tableFault firstFrom recordFault repeatFault among
 no-fault k t l =
     ⊎-elim (λ e. rw (e, lt-ltb k maskBits l, control-obeys)) (λ e. rw (e, lt-ltb k maskBits l, control-obeys))
+
+-- In any table a record of such words is good, with a mask number and a test step that are.
+pub control-record : (table : List ℕ) (i : ℕ) → maskNumberAt table i < maskBits → Known (testWordAt table i) → dmAt table i ≡ replicate dmWords 0 → GoodRecord table i
+control-record table i m k e = record { mask = m; known = k; rule = rule-true (dmAt table i) .0 (rw e control-obeys) }
 
 -- The table of one control record, with any mask number and either test step, is good.
 pub control-good : (k t : ℕ) → k < maskBits → (t ≡ 58) ⊎ (t ≡ 65) → GoodTable (controlTable k t)

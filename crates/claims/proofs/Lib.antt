@@ -18,6 +18,7 @@ pub mod OneShot
 pub mod Verdicts
 pub mod Refusals
 pub mod Short
+pub mod Tried
 pub mod Formed
 pub mod Kept
 pub mod Typed

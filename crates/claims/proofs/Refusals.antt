@@ -1,8 +1,8 @@
 -- 01's table of numbers, line by line: for each entry point, each number is given exactly when the table says so, in the
--- order of 01 with 02's requests d and f, and no other number; and then nothing has changed. What is refused of a loan, 6 and the numbers of
+-- order of 01 with 02's requests d, f and g, and no other number; and then nothing has changed. What is refused of a loan, 6 and the numbers of
 -- the tables, is said once, in loan/proofs/Loans (`loan-0`, `-6`, `-conditions`, `-table`, `-gives`, `-only`): here it stands behind the tests
--- of each call. An update looks at the tables only where it compresses a block, which a finish and a whole message always do. Lines 2 to 5 are
--- those of the table's check, `tableFault`: `is-2` of table/proofs/Faults, `line-3`, `-4` and `-5` of table/proofs/Lines. Lines 12 and 13 are
+-- of each call. An update looks at the tables only where it compresses a block, which a finish and a whole message always do. Lines 2 to 5 and 11 are
+-- those of the table's check, `tableFault`: `is-2` of table/proofs/Faults, `line-3`, `-4`, `-5` and `-11` of table/proofs/Lines. Lines 12 and 13 are
 -- those of `conditionFault`: `conditions-12` and `-13` of conditions/proofs/Faults. Assumes nothing.
 use mathlib.Core.Path.{_≡_, refl, sym, ap, _∙_, subst}
 use mathlib.Core.Logic.{_⊎_, inl, inr, ⊎-elim, _↔_, Iff·rfl, Iff·trans, Iff·and}
@@ -198,7 +198,7 @@ module _ (h : Hasher) (bytes : List ℕ) (l : Loan) where
       ↔ (WellFormed h × ((taken h + length bytes ≤ mostBytes) × Miscounted (h .flags) l (blocksFilled h (length bytes))))
   update-6 = update-lines .at-loan 6 _ refl (loan-6 (h .flags) l (blocksFilled h (length bytes)))
 
-  -- 2 to 5, only where a block is compressed
+  -- 2 to 5 and 11, only where a block is compressed
   pub update-table : (n : ℕ) → oneOf tableNumbers n ≡ true → (numberOf (updated h bytes l .refusal) ≡ n)
       ↔ (WellFormed h × ((taken h + length bytes ≤ mostBytes)
       × (WellCounted (h .flags) l (blocksFilled h (length bytes)) × ((1 ≤ blocksFilled h (length bytes)) × VectorsGive (h .flags) (l .tables) n))))

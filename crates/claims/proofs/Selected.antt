@@ -20,11 +20,12 @@ use Rattle.step.specs.Step.{Words, regsOf}
 use Rattle.step.specs.declared.Regs.{Regs}
 use Rattle.block.specs.Schedule.{wordsOf, scheduleOf}
 use Rattle.table.specs.Limits.{maskBits}
+use Rattle.table.specs.Bits.{hasBit}
 use Rattle.table.specs.Table.{recordsIn, maskNumberAt}
 use Rattle.conditions.specs.Conditions.{survivingOf}
 use Rattle.conditions.specs.Good.{AllIn}
 use Rattle.conditions.proofs.Survive.{bit-survives, no-conditions, same-conditions}
-use Rattle.search.specs.Marks.{hasBit, selects}
+use Rattle.search.specs.Marks.{selects}
 use Rattle.detect.specs.Detect.{selectionOf}
 use Rattle.fips.specs.Fips.{padded, initial}
 use Rattle.flags.specs.Flags.{usesConditions}

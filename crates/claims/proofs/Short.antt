@@ -82,7 +82,7 @@ module _ (h : Hasher) (bytes : List ℕ) (short : Short h bytes) where
   short-fits w = let most = w .blocks-most in omega arith
 
   module _ (l : Loan) where
-    -- It is refused by none of 2 to 5, 12 and 13,
+    -- It is refused by none of 2 to 5, 11, 12 and 13,
     pub short-unlooked : ByTables (updated h bytes l .refusal) → ⊥
     short-unlooked o = let some = update-by-tables h bytes l o .2 in omega arith
 

@@ -4,6 +4,7 @@ pub mod Pieces
 pub mod Short
 pub mod Marked
 pub mod Refusals
+pub mod Tried
 pub mod Settings
 pub mod Message
 pub mod Selected

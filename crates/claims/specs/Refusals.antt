@@ -23,6 +23,6 @@ pub record WellFormed (h : Hasher) : Type 0 where
   pub block-none : h .mark ≡ false → h .first .block ≡ 0
   pub place-none : h .mark ≡ false → h .first .place ≡ 0
 
--- a refusal by one of the numbers of the tables: 2 to 5, 12 and 13
+-- a refusal by one of the numbers of the tables: 2 to 5, 11, 12 and 13
 abbrev pub ByTables : Refusal → Type 0
 ByTables r = oneOf bothNumbers (numberOf r) ≡ true

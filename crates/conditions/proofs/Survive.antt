@@ -4,27 +4,19 @@ use mathlib.Core.Logic.{_↔_, ⊎-elim}
 use mathlib.Core.Bool.{Bool, true, false, false≢true}
 use mathlib.Core.List.{List, []}
 use Prim.Native.Nat.{ℕ, zero, suc, _+_, _-_, _/_, _%_, _^_, _<_}
-use native.Mathlib.Nat.{pow-suc, pow-succ', div-one, div-div-eq-div-mul, mod-lt, zero-lt-suc, eq-or-lt-of-le, sub-zero}
+use native.Mathlib.Nat.{pow-suc, eq-or-lt-of-le, sub-zero}
 use native.Mathlib.Omega.{arith}
-use lib.Bits.{bitOr, or-shr, or-mod, or-lt}
+use lib.Bits.{bitOr, or-lt}
 use lib.ListN.{length}
 use lib.Pow.{pow-pos, ones-sub-lt}
 use Rattle.word.specs.Choice.{pick}
 use Rattle.word.specs.Lists.{AllWords}
 use Rattle.table.specs.Limits.{maskBits}
+use Rattle.table.specs.Bits.{bitAt}
+use Rattle.table.proofs.Bits.{bit-lt, half-bit, low-bit, no-bit, or-bit}
 use Rattle.conditions.specs.Conditions.{conditionsIn, clearingAt, holdsAt, survivingOf}
 use Rattle.conditions.specs.Good.{Same, AllIn}
-use Rattle.conditions.specs.Survivors.{bitAt, droppedBy, droppedBelow, survivors, AllHold, Within, EachStands}
-
-bit-lt : (x b : ℕ) → bitAt x b < 2
-bit-lt x b = mod-lt (x / 2 ^ b) (zero-lt-suc 1)
-
--- bit b + 1 of a number is bit b of its half
-half-bit : (x b : ℕ) → bitAt x (suc b) ≡ bitAt (x / 2) b
-half-bit x b = rw (pow-succ' 2 b, ← div-div-eq-div-mul)
-
-low-bit : (x : ℕ) → bitAt x 0 ≡ x % 2
-low-bit x = rw (div-one x)
+use Rattle.conditions.specs.Survivors.{droppedBy, droppedBelow, survivors, AllHold, Within, EachStands}
 
 -- the complement has the bits that the number lacks
 lacks : (n b d : ℕ) → b < n → d < 2 ^ n → bitAt (2 ^ n - 1 - d) b + bitAt d b ≡ 1
@@ -44,9 +36,6 @@ same-bits (suc n) x y hx hy h =
     let lo : x % 2 ≡ y % 2 = sym (low-bit x) ∙ h 0 (omega arith) ∙ low-bit y in
     omega arith
 
-or-bit : (x y b : ℕ) → bitAt (bitOr x y) b ≡ bitOr (bitAt x b) (bitAt y b)
-or-bit x y b = ap (λ (n : ℕ). n % 2) (or-shr x y b) ∙ or-mod (x / 2 ^ b) (y / 2 ^ b) 1
-
 -- no bit in `or` of two exactly when in neither
 or-none : (x y : ℕ) → x < 2 → y < 2 → (bitOr x y ≡ 0) ↔ ((x ≡ 0) × (y ≡ 0))
 or-none zero y hx hy = (λ e. (refl, e), λ p. p .1)
@@ -54,10 +43,6 @@ or-none (suc zero) zero hx hy = (λ e. absurd (omega arith), λ p. absurd (omega
 or-none (suc zero) (suc zero) hx hy = (λ e. absurd (omega arith), λ p. absurd (omega (arith, p .0)))
 or-none (suc zero) (suc (suc y)) hx hy = absurd (omega arith)
 or-none (suc (suc x)) y hx hy = absurd (omega arith)
-
-no-bit : (b : ℕ) → bitAt 0 b ≡ 0
-no-bit zero = refl
-no-bit (suc b) = half-bit 0 b ∙ no-bit b
 
 clear-bit : (x : ℕ) → x < 2 → (x ≡ 1 → ⊥) → x ≡ 0
 clear-bit zero h n = refl

@@ -2,13 +2,10 @@
 -- vectors of its clearing mask.
 use mathlib.Core.Path.{_≡_}
 use mathlib.Core.Bool.{Bool, true}
-use Prim.Native.Nat.{ℕ, zero, suc, _-_, _/_, _%_, _^_, _<_}
+use Prim.Native.Nat.{ℕ, zero, suc, _-_, _^_, _<_}
 use lib.Bits.{bitOr}
 use Rattle.word.specs.Choice.{pick}
-
--- bit b of x
-abbrev pub bitAt : ℕ → ℕ → ℕ
-bitAt x b = x / 2 ^ b % 2
+use Rattle.table.specs.Bits.{bitAt}
 
 module _ (holds : ℕ → Bool) (clears : ℕ → ℕ) where
   -- the vectors that condition k drops

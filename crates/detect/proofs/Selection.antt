@@ -10,8 +10,9 @@ use lib.ListN.{length}
 use lib.Pow.{pow-pos}
 use Rattle.step.specs.declared.Regs.{Regs}
 use Rattle.table.specs.Limits.{maskBits}
+use Rattle.table.specs.Bits.{hasBit}
 use Rattle.table.specs.Table.{recordsIn, maskNumberAt}
-use Rattle.search.specs.Marks.{hasBit, selects, marks, foundIn}
+use Rattle.search.specs.Marks.{selects, marks, foundIn}
 use Rattle.search.proofs.Ended.{none-tried}
 use Rattle.conditions.proofs.Survive.{no-conditions}
 use Rattle.detect.specs.Detect.{selectionOf}

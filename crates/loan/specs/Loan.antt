@@ -59,7 +59,7 @@ masksWrong f k blocks = usesMasks f && not (eqb k blocks)
 abbrev pub conditionsRefusal : Flags → List ℕ → Refusal
 conditionsRefusal f conditions = pick (usesConditions f) (conditionFault conditions) Nothing
 
--- what is wrong with the vectors, which detection asks for: 2 to 5
+-- what is wrong with the vectors, which detection asks for: 2 to 5 and 11
 abbrev pub vectorsRefusal : Flags → List ℕ → Refusal
 vectorsRefusal f vectors = pick (f .detect) (tableFault vectors) Nothing
 
@@ -106,7 +106,7 @@ GoodTables f t = ConditionsPass f (t .conditions) × VectorsPass f (t .vectors)
 abbrev pub ConditionsGive : Flags → Tables → ℕ → Type 0
 ConditionsGive f t n = (usesConditions f ≡ true) × (numberOf (conditionFault (t .conditions)) ≡ n)
 
--- 2 to 5: nothing is wrong with the conditions, the vectors are asked for, and n is the number of what is wrong with them
+-- 2 to 5 and 11: nothing is wrong with the conditions, the vectors are asked for, and n is the number of what is wrong with them
 abbrev pub VectorsGive : Flags → Tables → ℕ → Type 0
 VectorsGive f t n = ConditionsPass f (t .conditions) × (f .detect ≡ true) × (numberOf (tableFault (t .vectors)) ≡ n)
 

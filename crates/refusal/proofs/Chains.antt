@@ -8,7 +8,7 @@ use lib.Dec.{ltb, eqb}
 use Rattle.word.specs.Choice.{pick}
 use Rattle.refusal.specs.Refusal.{numberOf, placeOf, isNothing, placedNumbers, oneOf}
 use Rattle.refusal.specs.declared.Refusal.{Refusal}
-use Rattle.refusal.specs.declared.Refusal.the-variants.{Nothing, HasherForm, TableLength, MaskNumber, TestStep, DmRule, MaskCount, MessageLength, Size, SheetLength, NoLane, ConditionLength, Condition}
+use Rattle.refusal.specs.declared.Refusal.the-variants.{Nothing, HasherForm, TableLength, MaskNumber, TestStep, DmRule, MaskCount, MessageLength, Size, SheetLength, NoLane, MaskRepeated, ConditionLength, Condition}
 
 -- a test is true exactly when P holds, and false exactly when Q does
 pub record Decides (b : Bool) (P Q : Type 0) : Type 0 where
@@ -83,6 +83,7 @@ kind MessageLength = inr (refl, inl refl)
 kind Size = inr (refl, inl refl)
 kind SheetLength = inr (refl, inl refl)
 kind NoLane = inr (refl, inl refl)
+kind (MaskRepeated i) = inr (refl, inr refl)
 kind ConditionLength = inr (refl, inl refl)
 kind (Condition i) = inr (refl, inr refl)
 

@@ -4,7 +4,7 @@ use native.Mathlib.Omega.{arith}
 use lib.Dec.{lit≤}
 use Rattle.refusal.specs.Refusal.{numberOf}
 use Rattle.refusal.specs.declared.Refusal.{Refusal}
-use Rattle.refusal.specs.declared.Refusal.the-variants.{Nothing, HasherForm, TableLength, MaskNumber, TestStep, DmRule, MaskCount, MessageLength, Size, SheetLength, NoLane, ConditionLength, Condition}
+use Rattle.refusal.specs.declared.Refusal.the-variants.{Nothing, HasherForm, TableLength, MaskNumber, TestStep, DmRule, MaskCount, MessageLength, Size, SheetLength, NoLane, MaskRepeated, ConditionLength, Condition}
 
 -- It is never 16, which is the program's own.
 pub number-low : (r : Refusal) → numberOf r ≤ 15
@@ -19,6 +19,7 @@ number-low MessageLength = lit≤ tt
 number-low Size = lit≤ tt
 number-low SheetLength = lit≤ tt
 number-low NoLane = lit≤ tt
+number-low (MaskRepeated i) = lit≤ tt
 number-low ConditionLength = lit≤ tt
 number-low (Condition i) = lit≤ tt
 

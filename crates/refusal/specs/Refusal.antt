@@ -1,11 +1,11 @@
 -- The paper's number of each refusal, and the place that it names.
 use mathlib.Core.Bool.{Bool, false, _||_}
 use mathlib.Core.List.{List, [], _∷_}
-use Prim.Native.Nat.{ℕ}
+use Prim.Native.Nat.{ℕ, zero, suc}
 use lib.Dec.{eqb}
 use Rattle.word.specs.Choice.{pick}
 use Rattle.refusal.specs.declared.Refusal.{Refusal}
-use Rattle.refusal.specs.declared.Refusal.the-variants.{Nothing, HasherForm, TableLength, MaskNumber, TestStep, DmRule, MaskCount, MessageLength, Size, SheetLength, NoLane, ConditionLength, Condition}
+use Rattle.refusal.specs.declared.Refusal.the-variants.{Nothing, HasherForm, TableLength, MaskNumber, TestStep, DmRule, MaskCount, MessageLength, Size, SheetLength, NoLane, MaskRepeated, ConditionLength, Condition}
 
 -- the number in the table of 01, as amended; 0 where nothing is refused
 abbrev pub numberOf : Refusal → ℕ
@@ -20,6 +20,7 @@ numberOf MessageLength = 7
 numberOf Size = 8
 numberOf SheetLength = 9
 numberOf NoLane = 10
+numberOf (MaskRepeated i) = 11
 numberOf ConditionLength = 12
 numberOf (Condition i) = 13
 
@@ -36,6 +37,7 @@ placeOf MessageLength = 0
 placeOf Size = 0
 placeOf SheetLength = 0
 placeOf NoLane = 0
+placeOf (MaskRepeated i) = i
 placeOf ConditionLength = 0
 placeOf (Condition i) = i
 
@@ -47,9 +49,14 @@ isNothing r = eqb (numberOf r) 0
 abbrev pub firstOf : Refusal → Refusal → Refusal
 firstOf r s = pick (isNothing r) s r
 
+-- the first fault of the n places from i on
+unfoldable pub firstFrom : (ℕ → Refusal) → ℕ → ℕ → Refusal
+firstFrom fault i zero = Nothing
+firstFrom fault i (suc n) = firstOf (fault i) (firstFrom fault (suc i) n)
+
 -- the numbers that a table can give
 abbrev pub tableNumbers : List ℕ
-tableNumbers = 2 ∷ 3 ∷ 4 ∷ 5 ∷ []
+tableNumbers = 2 ∷ 3 ∷ 4 ∷ 5 ∷ 11 ∷ []
 
 -- the numbers that a table of conditions can give
 abbrev pub conditionNumbers : List ℕ
@@ -57,7 +64,7 @@ conditionNumbers = 12 ∷ 13 ∷ []
 
 -- the numbers that name a record's place
 abbrev pub placedNumbers : List ℕ
-placedNumbers = 3 ∷ 4 ∷ 5 ∷ 13 ∷ []
+placedNumbers = 3 ∷ 4 ∷ 5 ∷ 11 ∷ 13 ∷ []
 
 -- n is one of the numbers listed
 abbrev pub oneOf : List ℕ → ℕ → Bool

@@ -23,6 +23,8 @@ pub enum Refusal {
     SheetLength,
     // 10: the bench has no such lane, is empty or too large.
     NoLane,
+    // 11, with the place of the first record whose mask number an earlier record has.
+    MaskRepeated(usize),
     // 12: more conditions than a table of them may have, or no whole number of them.
     ConditionLength,
     // 13, with the place of the first condition that names a word, a bit or a value that is not there.
@@ -45,6 +47,7 @@ pub fn number(r: Refusal) -> u32
         Refusal::Size => 8,
         Refusal::SheetLength => 9,
         Refusal::NoLane => 10,
+        Refusal::MaskRepeated(_) => 11,
         Refusal::ConditionLength => 12,
         Refusal::Condition(_) => 13,
     }
@@ -58,6 +61,7 @@ pub fn place(r: Refusal) -> usize
         Refusal::MaskNumber(i) => i,
         Refusal::TestStep(i) => i,
         Refusal::DmRule(i) => i,
+        Refusal::MaskRepeated(i) => i,
         Refusal::Condition(i) => i,
         Refusal::Nothing => 0,
         Refusal::HasherForm => 0,

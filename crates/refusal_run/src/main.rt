@@ -45,11 +45,11 @@ fn by_letter(letter: u8, line: &[u8], table: &[u32], conditions: &[u32], masks: 
     }
 }
 
-// The masks select no record with mask number 0; the conditions, if there are any, drop those.
+// The masks select mask number 31 alone; the conditions, if there are any, drop mask number 0.
 fn call_on(letter: u8, line: &[u8]) {
     let t = records_of(line);
     let c = conditions_of(line, 17);
-    let masks = [0xFFFFFFFEu32; 3];
+    let masks = [0x80000000u32; 3];
     let table = front(&t, number_at(line, 1));
     let conditions = front(&c, number_at(line, 16));
     by_letter(

@@ -1,3 +1,4 @@
 pub mod Ended
 pub mod Turns
 pub mod Marks
+pub mod Counted

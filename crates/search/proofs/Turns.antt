@@ -7,8 +7,8 @@ use native.Mathlib.Numerals.{add-one}
 use native.Mathlib.Omega.{arith}
 use lib.Dec.{eqb}
 use lib.Pow.{pow-mono}
+use Rattle.table.specs.Bits.{hasBit}
 use Rattle.search.specs.Search.{searchFrom}
-use Rattle.search.specs.Marks.{hasBit}
 
 module _ (selected marks : ℕ → Bool) (i n k : ℕ) where
   pub turn-skip : i < n → selected i ≡ false

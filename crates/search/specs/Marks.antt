@@ -1,24 +1,20 @@
 -- Which vectors are tried with a block, which one marks it, and what the search through a table finds.
 use mathlib.Core.Bool.{Bool, _&&_, _||_}
 use mathlib.Core.List.{List}
-use Prim.Native.Nat.{ℕ, _/_, _%_, _^_}
-use lib.Dec.{eqb}
+use Prim.Native.Nat.{ℕ}
 use lib.ListN.{length}
 use Rattle.step.specs.Step.{stepsOf, sameRegs}
 use Rattle.step.specs.declared.Regs.{Regs}
 use Rattle.block.specs.Compress.{overSchedule}
 use Rattle.sibling.specs.Sibling.{siblingSchedule, recompressed}
 use Rattle.sibling.specs.declared.Ends.{Ends}
+use Rattle.table.specs.Bits.{hasBit}
 use Rattle.table.specs.Table.{stepsBefore, testtOf, recordsIn, maskNumberAt, testWordAt, dmAt}
 use Rattle.table.specs.declared.Testt.{Testt}
 use Rattle.table.specs.declared.Testt.the-variants.{T58, T65}
 use Rattle.block.specs.declared.States.{States}
 use Rattle.search.specs.Search.{searchFrom}
 use Rattle.search.specs.declared.Found.{Found}
-
--- the mask has bit k
-abbrev pub hasBit : ℕ → ℕ → Bool
-hasBit mask k = eqb (mask / 2 ^ k % 2) 1
 
 -- the mask selects record i
 abbrev pub selects : ℕ → List ℕ → ℕ → Bool

@@ -12,9 +12,9 @@ use Rattle.refusal.specs.Refusal.{numberOf, isNothing}
 use Rattle.refusal.specs.declared.Refusal.the-variants.{Nothing}
 use Rattle.table.specs.Limits.{recordWords}
 use Rattle.table.specs.Table.{stepsBefore, testtOf, recordsIn, wholeRecords, tableFault}
-use Rattle.table.specs.Good.{Known, GoodBelow, GoodTable}
+use Rattle.table.specs.Good.{Known, GoodBelow, DifferentBelow, GoodTable}
 use Rattle.word.proofs.Tests.{unless-false}
-use Rattle.table.proofs.Faults.{whole-length, not-whole, length-fault, good-or-bad, first-bad, all-good}
+use Rattle.table.proofs.Faults.{whole-length, not-whole, length-fault, good-or-bad, different-or-repeat, first-bad, first-repeat, all-good}
 
 -- a known test step is the number of steps before it
 pub step-of : (x : ℕ) → Known x → stepsBefore (testtOf x) ≡ x
@@ -31,6 +31,13 @@ module _ (table : List ℕ) where
       (λ b. absurd (true≢false (sym h ∙ (ap isNothing (first-bad table (is-whole h) (b .0) (b .1) (b .2) (b .3)) ∙ b .3))))
       (good-or-bad table (recordsIn (length table)))
 
+  -- were one to repeat, the first that does would be
+  different-below : isNothing (tableFault table) ≡ true → DifferentBelow table (recordsIn (length table))
+  different-below h =
+      ⊎-elim (λ d. d)
+      (λ r. absurd (true≢false (sym h ∙ ap isNothing (first-repeat table (is-whole h) (good-below h) (r .0) (r .1) (r .2) (r .3)))))
+      (different-or-repeat table (recordsIn (length table)))
+
   pub good-table : isNothing (tableFault table) ≡ true → GoodTable table
   good-table h =
       let w = whole-length (length table) (is-whole h) in
@@ -40,6 +47,7 @@ module _ (table : List ℕ) where
         some = omega arith;
         most = omega arith;
         each = good-below h;
+        different = different-below h;
       }
 
   -- a table has no fault exactly when it is good
@@ -48,7 +56,7 @@ module _ (table : List ℕ) where
     λ e. good-table (ap isNothing e),
     λ g. all-good table (unless-false _ (λ w.
         ⊎-elim (λ e. omega arith) (⊎-elim (λ e. omega arith) (λ e. e (omega arith))) (not-whole (length table) .0 w)))
-        (g .each),
+        (g .each) (g .different),
   )
 
   -- and so has the number 0

@@ -1,4 +1,4 @@
--- What can be wrong with a table and what is good, as facts: lines 2 to 5 of 01's table of numbers.
+-- What can be wrong with a table and what is good, as facts: lines 2 to 5 of 01's table of numbers, and 11 of 02, request g.
 use mathlib.Core.Path.{_≡_}
 use mathlib.Core.Logic.{_⊎_}
 use mathlib.Core.List.{List}
@@ -53,9 +53,30 @@ pub record FirstBad (Bad : List ℕ → ℕ → Type 0) (table : List ℕ) (i : 
   pub before : GoodBelow table i
   pub bad : Bad table i
 
--- some whole records, not too many, each good
+-- record i repeats: an earlier record has its mask number
+abbrev pub Repeats : List ℕ → ℕ → Type 0
+Repeats table i = (j : ℕ) × (j < i) × (maskNumberAt table j ≡ maskNumberAt table i)
+
+-- the mask numbers of the records before place n are all different: none of them repeats
+abbrev pub DifferentBelow : List ℕ → ℕ → Type 0
+DifferentBelow table n = (i : ℕ) → i < n → Repeats table i → ⊥
+
+-- two records of the table have one mask number
+abbrev pub TwoAlike : List ℕ → Type 0
+TwoAlike table = (i : ℕ) × (i < recordsIn (length table)) × Repeats table i
+
+-- 11: a table of a good length, each record good, has the first record that repeats at place i
+pub record FirstRepeat (table : List ℕ) (i : ℕ) : Type 0 where
+  pub whole : BadLength (length table) → ⊥
+  pub each : GoodBelow table (recordsIn (length table))
+  pub inside : i < recordsIn (length table)
+  pub before : DifferentBelow table i
+  pub repeats : Repeats table i
+
+-- some whole records, not too many, each good, and their mask numbers all different
 pub record GoodTable (table : List ℕ) : Type 0 where
   pub whole : length table ≡ recordWords * recordsIn (length table)
   pub some : 0 < recordsIn (length table)
   pub most : recordsIn (length table) ≤ mostRecords
   pub each : GoodBelow table (recordsIn (length table))
+  pub different : DifferentBelow table (recordsIn (length table))

@@ -1,3 +1,4 @@
 pub mod Limits
+pub mod Bits
 pub mod Table
 pub mod Good

@@ -1,14 +1,14 @@
 -- A table of vectors: what its records say, and what is wrong with it.
-use mathlib.Core.Bool.{Bool, true, not, _&&_, _||_}
+use mathlib.Core.Bool.{Bool, true, false, not, _&&_, _||_}
 use mathlib.Core.List.{List}
 use Prim.Native.Nat.{ℕ, zero, suc, _+_, _-_, _*_, _/_, _%_}
 use lib.Dec.{ltb, leb, eqb}
 use lib.ListN.{length, getD, take, drop}
 use Rattle.word.specs.Choice.{pick}
 use Rattle.word.specs.Rule.{ruleAt}
-use Rattle.refusal.specs.Refusal.{firstOf}
+use Rattle.refusal.specs.Refusal.{firstOf, firstFrom}
 use Rattle.refusal.specs.declared.Refusal.{Refusal}
-use Rattle.refusal.specs.declared.Refusal.the-variants.{Nothing, TableLength, MaskNumber, TestStep, DmRule}
+use Rattle.refusal.specs.declared.Refusal.the-variants.{Nothing, TableLength, MaskNumber, TestStep, DmRule, MaskRepeated}
 use Rattle.table.specs.Limits.{dmWords, recordWords, mostRecords, maskBits}
 use Rattle.table.specs.declared.Testt.{Testt}
 use Rattle.table.specs.declared.Testt.the-variants.{T58, T65}
@@ -55,16 +55,27 @@ recordFault table i =
     (pick (not (obeys (dmAt table i))) (DmRule i)
     Nothing))
 
--- what is wrong with the first bad one of the n records from place i on
-unfoldable pub faultFrom : List ℕ → ℕ → ℕ → Refusal
-faultFrom table i zero = Nothing
-faultFrom table i (suc n) = firstOf (recordFault table i) (faultFrom table (suc i) n)
+-- what is wrong with the first bad record
+abbrev pub firstBad : List ℕ → Refusal
+firstBad table = firstFrom (recordFault table) 0 (recordsIn (length table))
+
+-- one of the first n places has the number k
+unfoldable pub among : (ℕ → ℕ) → ℕ → ℕ → Bool
+among number k zero = false
+among number k (suc n) = eqb (number n) k || among number k n
+
+-- what is wrong with record i beside the earlier ones: one of them has its mask number
+unfoldable pub repeatFault : List ℕ → ℕ → Refusal
+repeatFault table i = pick (among (maskNumberAt table) (maskNumberAt table i) i) (MaskRepeated i) Nothing
+
+-- what is wrong with the first record that repeats an earlier one's mask number
+abbrev pub firstRepeat : List ℕ → Refusal
+firstRepeat table = firstFrom (repeatFault table) 0 (recordsIn (length table))
 
 -- n words can be a table: some records, not too many, and nothing besides
 abbrev pub wholeRecords : ℕ → Bool
 wholeRecords n = ltb 0 n && (leb n (recordWords * mostRecords) && eqb (n % recordWords) 0)
 
--- what is wrong with a table
+-- what is wrong with a table: its length, then its first bad record, then the first that repeats
 unfoldable pub tableFault : List ℕ → Refusal
-tableFault table =
-    pick (not (wholeRecords (length table))) TableLength (faultFrom table 0 (recordsIn (length table)))
+tableFault table = pick (not (wholeRecords (length table))) TableLength (firstOf (firstBad table) (firstRepeat table))

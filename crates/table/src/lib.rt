@@ -6,7 +6,8 @@ ghost use Prim.Native.Nat.{_+_, _*_, _≤_};
 ghost use lib.Dec.{eqb};
 ghost use lib.ListN.{length};
 ghost use Rattle.table.specs.Limits.{dmWords, recordWords};
-ghost use Rattle.table.specs.Table.{testtOf, obeys, recordFault, wholeRecords, tableFault};
+ghost use Rattle.table.specs.Table.{testtOf, recordsIn, obeys, recordFault, firstBad, firstRepeat, wholeRecords, tableFault};
+ghost use Rattle.table.specs.Good.{GoodBelow};
 use refusal::Refusal;
 use refusal::is_nothing;
 use word::mix;
@@ -88,19 +89,46 @@ fn whole_records(n: usize) -> bool
     n % RECORD_WORDS == 0
 }
 
-// What is wrong with a table: its length, or its first bad record.
-pub fn table_fault(table: &[u32]) -> Refusal
-    ensures { λ r. ⌜ r ≡ tableFault (now (table .entry)) ⌝ }
+// What is wrong with the first bad record.
+fn first_bad(table: &[u32]) -> Refusal
+    ensures { λ r. ⌜ r ≡ firstBad (now (table .entry)) ⌝ }
 {
-    let words = table.len();
-    if !whole_records(words) {
-        return Refusal::TableLength;
-    }
-    for i in 0..words / RECORD_WORDS {
+    for i in 0..table.len() / RECORD_WORDS {
         let fault = record_fault(table, i);
         if !is_nothing(fault) {
             return fault;
         }
     }
     Refusal::Nothing
+}
+
+// The first record whose mask number an earlier one has. The numbers seen so far are the bits of one word.
+fn first_repeat(table: &[u32]) -> Refusal
+    requires { ⌜ GoodBelow (now table) (recordsIn (length (now table))) ⌝ }
+    ensures { λ r. ⌜ r ≡ firstRepeat (now (table .entry)) ⌝ }
+{
+    let n = table.len() / RECORD_WORDS;
+    let mut seen = 0u32;
+    for i in 0..n {
+        let k = table[RECORD_WORDS * i];
+        if (seen >> k) % 2 == 1 {
+            return Refusal::MaskRepeated(i);
+        }
+        seen = seen | (1u32 << k);
+    }
+    Refusal::Nothing
+}
+
+// What is wrong with a table: its length, its first bad record, or the first that repeats a mask number.
+pub fn table_fault(table: &[u32]) -> Refusal
+    ensures { λ r. ⌜ r ≡ tableFault (now (table .entry)) ⌝ }
+{
+    if !whole_records(table.len()) {
+        return Refusal::TableLength;
+    }
+    let bad = first_bad(table);
+    if is_nothing(bad) {
+        return first_repeat(table);
+    }
+    bad
 }

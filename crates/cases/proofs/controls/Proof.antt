@@ -15,17 +15,29 @@ abbrev μ-loop : tie.MeasureT-loop
 loop-holds : tie.Need-loop-holds Inv-loop μ-loop
 loop-holds c = search needs
 
+cast-t : tie.Need-cast-t Inv-loop μ-loop
+cast-t c = search needs
+
 mul-t : tie.Need-mul-t Inv-loop μ-loop
 mul-t c = search needs
-
-add-t : tie.Need-add-t Inv-loop μ-loop
-add-t c = search needs
 
 mul-t-2 : tie.Need-mul-t-2 Inv-loop μ-loop
 mul-t-2 c = search needs
 
 array-write-t : tie.Need-array-write-t Inv-loop μ-loop
 array-write-t c = search needs
+
+mul-t-3 : tie.Need-mul-t-3 Inv-loop μ-loop
+mul-t-3 c = search needs
+
+add-t : tie.Need-add-t Inv-loop μ-loop
+add-t c = search needs
+
+mul-t-4 : tie.Need-mul-t-4 Inv-loop μ-loop
+mul-t-4 c = search needs
+
+array-write-t-2 : tie.Need-array-write-t-2 Inv-loop μ-loop
+array-write-t-2 c = search needs
 
 add-i : tie.Need-add-i Inv-loop μ-loop
 add-i c = search needs
@@ -46,10 +58,14 @@ controls-spec =
     Inv-loop
     μ-loop
     loop-holds
+    cast-t
     mul-t
-    add-t
     mul-t-2
     array-write-t
+    mul-t-3
+    add-t
+    mul-t-4
+    array-write-t-2
     add-i
     loop-less
     loop-again

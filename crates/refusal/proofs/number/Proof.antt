@@ -43,6 +43,9 @@ enum-told-12 c = search needs
 enum-told-13 : tie.Need-enum-told-13
 enum-told-13 c = search needs
 
+enum-told-14 : tie.Need-enum-told-14
+enum-told-14 c = search needs
+
 returns : tie.Need-returns
 returns c = search needs
 
@@ -82,6 +85,9 @@ returns-12 c = search needs
 returns-13 : tie.Need-returns-13
 returns-13 c = search needs
 
+returns-14 : tie.Need-returns-14
+returns-14 c = search needs
+
 pub number-spec : {M : Type 1} → statement M
 number-spec =
     tie.close
@@ -99,6 +105,7 @@ number-spec =
     enum-told-11
     enum-told-12
     enum-told-13
+    enum-told-14
     returns
     returns-2
     returns-3
@@ -111,4 +118,5 @@ number-spec =
     returns-10
     returns-11
     returns-12
-    returns-13)
+    returns-13
+    returns-14)

@@ -1,4 +1,6 @@
 // The work of an update: the whole blocks of a stream compressed, and the rest left pending.
+#![tactic(auto)]
+
 ghost use Rattle.std.specs.Prelude.{◌≡◌, ◌+◌, ◌/◌, ◌^◌, ◌<◌, length};
 ghost use Rattle.conditions.specs.Good.{GoodConditions};
 ghost use Rattle.loan.specs.Loan.{loan_of, conditions_for};

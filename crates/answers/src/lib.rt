@@ -1,4 +1,6 @@
 // What a call answers: its number, and what it leaves in the slices that it may write.
+#![tactic(auto)]
+
 ghost use Rattle.std.specs.Prelude.{◌≡◌, [], ◌∷◌, length};
 ghost use Rattle.refusal.specs.Refusal.{number_of};
 ghost use Rattle.verdict.specs.Verdict.{digest_size};

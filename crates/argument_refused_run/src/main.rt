@@ -1,4 +1,8 @@
 // Runs the program with an argument that it does not know, behind a table that is bad too.
-fn main() {
-    program_io::run();
+#![tactic(auto)]
+
+use std::io;
+
+fn main(rt: HostRuntime) -> io::Result<()> {
+    program_io::run(&rt)
 }

@@ -1,4 +1,6 @@
 // What the program's arguments ask.
+#![tactic(auto)]
+
 ghost use Rattle.std.specs.Prelude.{◌≡◌};
 ghost use Rattle.arguments.specs.Arguments.{names_table, kind_of, name_of, no_setting, with_kind, flags_of};
 
@@ -6,7 +8,7 @@ use flags::{Flags, Masks};
 use octets::same_bytes;
 
 // What an argument is.
-#[derive(Drop)]
+#[derive(Clone, Copy)]
 pub enum ArgumentKind {
     // `table=FILE`. With nothing after the sign it names a file that cannot be read.
     Table,
@@ -15,7 +17,7 @@ pub enum ArgumentKind {
 }
 
 // What the arguments so far ask: a table, no mitigation; or that one of them is unknown or repeated.
-#[derive(Drop)]
+#[derive(Clone, Copy)]
 pub struct Setting {
     pub table: bool,
     pub raw: bool,

@@ -1,4 +1,6 @@
 // A bench of hashers, lent as one slice; a call names its lane. Each call is thin: the by-value call does the work.
+#![tactic(auto)]
+
 ghost use Rattle.std.specs.Prelude.{◌≡◌};
 ghost use Rattle.loan.specs.Loan.{loan_of};
 ghost use Rattle.bench.specs.Bench.{lane_update_refusal, lane_updated, lane_answer, lane_finished, lane_written, lane_reset_refusal, lane_reset};
@@ -11,7 +13,7 @@ use stream::FirstMark;
 use update::update;
 
 // What a lane's finish answers beside the bytes that it writes.
-#[derive(Drop)]
+#[derive(Clone, Copy)]
 pub struct LaneAnswer {
     pub outcome: Outcome,
     // The first marked block of the lane's message, padding counted, and the place of the vector that marked it; zeros where none was.

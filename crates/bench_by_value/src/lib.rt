@@ -1,5 +1,7 @@
 // The lane calls by value: of 17 hashers, one more than a bench may have, the first ones are lent as the bench, and all are
 // handed back. Programs call these: no contract here speaks of a reference to a hasher.
+#![tactic(auto)]
+
 ghost use Rattle.std.specs.Prelude.{◌≡◌, ◌≤◌};
 ghost use Rattle.loan.specs.Loan.{loan_of};
 ghost use Rattle.bench_by_value.specs.ByValue.{updated_through, finished_through, written_through, reset_through};
@@ -11,14 +13,14 @@ use refusal::Refusal;
 use stream::FirstMark;
 
 // What a lane call refused, and all hashers afterwards.
-#[derive(Drop)]
+#[derive(Clone, Copy)]
 pub struct Benched {
     pub refusal: Refusal,
     pub bench: [Hasher; 17],
 }
 
 // What a lane's finish gave, and all hashers afterwards.
-#[derive(Drop)]
+#[derive(Clone, Copy)]
 pub struct BenchFinished {
     pub outcome: Outcome,
     pub first: FirstMark,

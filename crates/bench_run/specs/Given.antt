@@ -1,5 +1,5 @@
 -- The hashers that lines put on the row.
-use Rattle.std.specs.Prelude.{Bool, false, ◌&&◌, List, ℕ, eqb, take}
+use Rattle.std.specs.Prelude.{List, ℕ, eqb, take}
 use Rattle.word.specs.Choice.{pick}
 use Rattle.step.specs.Step.{regs_of, five_of}
 use Rattle.hasher.specs.Hasher.{fresh_of}

@@ -1,5 +1,5 @@
 // The hashers that lines put on the row.
-ghost use Rattle.std.specs.Prelude.{◌≡◌, take};
+ghost use Rattle.std.specs.Prelude.{IfOk, ◌≡◌, take};
 ghost use Rattle.replay_line.specs.Fields.{run_at};
 ghost use Rattle.bench_run.specs.Given.{line_hasher, seated_given, seated_new};
 
@@ -8,13 +8,20 @@ use cases::{flags_of_bits, number_at};
 use hasher::Hasher;
 use octets::store;
 use replay_line::{RUN_BYTES, bytes_front, five_at, run_at, word_count};
+use std::io;
+use std::io::Write;
 use stream::FirstMark;
 
 // A new hasher, with the flags of field 2.
-pub(crate) fn seat_new(row: Row, line: &[u8]) -> Row
-    ensures { result ≡ seated_new row line.now }
+pub(crate) fn seat_new<W: Write>(out: &mut W, row: Row, line: &[u8]) -> io::Result<Row>
+    ensures { IfOk result (λ r. r ≡ seated_new row line.now) }
 {
-    seated(row, line, Hasher::new(flags_of_bits(number_at(line, 2))))
+    seated(
+        out,
+        row,
+        line,
+        Hasher::new(flags_of_bits(number_at(line, 2))),
+    )
 }
 
 // The first 64 bytes of a run.
@@ -54,15 +61,15 @@ fn line_hasher(line: &[u8]) -> Hasher
 }
 
 // Such a hasher on the row. Its words must be five, and its pending bytes such as can be read.
-pub(crate) fn seat_given(row: Row, line: &[u8]) -> Row
-    ensures { result ≡ seated_given row line.now }
+pub(crate) fn seat_given<W: Write>(out: &mut W, row: Row, line: &[u8]) -> io::Result<Row>
+    ensures { IfOk result (λ r. r ≡ seated_given row line.now) }
 {
     let pending = run_at(line, 7);
     if word_count(line, 6) != 5 {
-        return unplayed(row, line);
+        return unplayed(out, row, line);
     }
     if !pending.good {
-        return unplayed(row, line);
+        return unplayed(out, row, line);
     }
-    seated(row, line, line_hasher(line))
+    seated(out, row, line, line_hasher(line))
 }

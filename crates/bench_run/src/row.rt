@@ -1,5 +1,5 @@
 // The hashers that calls are made on, and how many of them are lent.
-ghost use Rattle.std.specs.Prelude.{◌≡◌, ◌≤◌};
+ghost use Rattle.std.specs.Prelude.{IfOk, ◌≡◌, ◌≤◌};
 ghost use Rattle.cases.specs.Numbers.{number_at};
 ghost use Rattle.bench_run.specs.Row.{row_of, all_new, lent_of, seated_at};
 
@@ -7,12 +7,14 @@ use cases::number_at;
 use flags::Flags;
 use hasher::Hasher;
 use printing::{say, say_decimal, say_hasher};
+use std::io;
+use std::io::Write;
 
 // One more than a bench may have.
 pub const SEATS: usize = 17;
 
 // The first `count` hashers, or all of them, are lent as the bench.
-#[derive(Drop)]
+#[derive(Clone, Copy)]
 pub struct Row {
     pub count: usize,
     pub hashers: [Hasher; SEATS],
@@ -40,13 +42,13 @@ pub(crate) fn lent_of(row: Row) -> usize
 }
 
 // A line that can't be played leaves the row as it was.
-pub(crate) fn unplayed(row: Row, line: &[u8]) -> Row
-    ensures { result ≡ row }
+pub(crate) fn unplayed<W: Write>(out: &mut W, row: Row, line: &[u8]) -> io::Result<Row>
+    ensures { IfOk result (λ r. r ≡ row) }
 {
-    say(b"not played: ");
-    say(line);
-    say(b"\n");
-    row
+    say(out, b"not played: ")?;
+    say(out, line)?;
+    say(out, b"\n")?;
+    Ok(row)
 }
 
 // Another number of hashers lent.
@@ -61,29 +63,30 @@ pub(crate) fn with_count(row: Row, line: &[u8]) -> Row
 }
 
 // The row with another hasher at the seat that field 1 has.
-pub(crate) fn seated(row: Row, line: &[u8], h: Hasher) -> Row
-    ensures { result ≡ seated_at row (number_at line.now 1) h }
+pub(crate) fn seated<W: Write>(out: &mut W, row: Row, line: &[u8], h: Hasher) -> io::Result<Row>
+    ensures { IfOk result (λ r. r ≡ seated_at row (number_at line.now 1) h) }
 {
     let at = number_at(line, 1);
     let mut hashers = row.hashers;
     if at < SEATS {
         hashers[at] = h;
-        return Row {
+        return Ok(Row {
             count: row.count,
             hashers,
-        };
+        });
     }
-    unplayed(row, line)
+    unplayed(out, row, line)
 }
 
 // All hashers, lent or not.
-pub(crate) fn say_row(row: Row) {
+pub(crate) fn say_row<W: Write>(out: &mut W, row: Row) -> io::Result<()> {
     let hashers = row.hashers;
     for i in 0..SEATS {
-        say(b"hasher ");
-        say_decimal(i as u64);
-        say(b": ");
-        say_hasher(hashers[i]);
-        say(b"\n");
+        say(out, b"hasher ")?;
+        say_decimal(out, i as u64)?;
+        say(out, b": ")?;
+        say_hasher(out, hashers[i])?;
+        say(out, b"\n")?;
     }
+    Ok(())
 }

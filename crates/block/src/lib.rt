@@ -1,5 +1,7 @@
 // The compression of one block: plain, with the two states that detection needs, and over a schedule that is there
 // already.
+#![tactic(auto)]
+
 ghost use Rattle.std.specs.Prelude.{◌≡◌, List, ℕ, ◌<◌, ◌≤◌, length};
 ghost use Rattle.octets.specs.Octets.{be32_at};
 ghost use Rattle.block.specs.Schedule.{words_of, schedule_of};
@@ -11,7 +13,7 @@ use step::{Regs, add_regs, step, steps};
 use word::mix;
 
 // What one compression leaves for detection, all in the order of FIPS 180-4.
-#[derive(Drop)]
+#[derive(Clone, Copy)]
 pub struct States {
     // After steps 0 to 57.
     pub s58: Regs,

@@ -1,6 +1,8 @@
 // What the programs that run the library read: files, and cases written as text, a line each, with a space between fields.
-ghost use Rattle.std.specs.Prelude.{◌≡◌, ◌≤◌, ◌<◌, length, take};
-ghost use Rattle.io.specs.Counts.{IsPrefixLen};
+#![tactic(auto)]
+
+ghost use Rattle.std.specs.Prelude.{◌≡◌, ◌≤◌, ◌<◌, IfOk, OnErr, length, take};
+ghost use Rattle.std.specs.Counts.{IsPrefixLen};
 ghost use Rattle.stream.specs.Fold.{mode_of};
 ghost use Rattle.cases.specs.Lines.{field_end, line_end, one_if, occurrences, found_at, place_after, start_of, field_of, from_field, line_at};
 ghost use Rattle.cases.specs.Numbers.{with_digit, decimal_value, number_at, word_field, flags_of_bits};
@@ -8,6 +10,9 @@ ghost use Rattle.cases.specs.Numbers.{with_digit, decimal_value, number_at, word
 use detect::Mode;
 use flags::Flags;
 use printing::say;
+use std::io::{Read, Write};
+use std::rt::Files;
+use std::{fs, io};
 
 // Bytes in the longest text, and words in the longest table and in the longest table of conditions.
 pub const MOST_TEXT: usize = 262144;
@@ -92,9 +97,9 @@ pub fn from_field(line: &[u8], i: usize) -> &[u8]
 }
 
 // What a title's line says.
-pub fn say_title(line: &[u8]) {
-    say(from_field(line, 1));
-    say(b"\n");
+pub fn say_title<W: Write>(out: &mut W, line: &[u8]) -> io::Result<()> {
+    say(out, from_field(line, 1))?;
+    say(out, b"\n")
 }
 
 // The line that starts at a place of a text.
@@ -267,23 +272,57 @@ pub fn page() -> [u8; MOST_TEXT]
     [0u8; MOST_TEXT]
 }
 
-// How many bytes of a file stand at the buffer's start now.
-pub fn read(path: &[u8], buf: &mut [u8]) -> usize
+// Reads until the buffer is full, the file ends or a read fails. How many bytes stand at the buffer's start now.
+fn read_full<F: Read>(file: &mut F, buf: &mut [u8]) -> usize
     ensures { IsPrefixLen result buf.new }
 {
-    let fd = os::open_read(path);
-    if fd < 0 {
-        say(b"no file\n");
-        return 0;
+    let mut done = 0;
+    while done < buf.len() {
+        match file.read(&mut buf[done..]) {
+            Ok(0) => return done,
+            Ok(n) => done += n,
+            Err(_) => return done,
+        }
     }
-    let n = io::read_full(fd, buf);
-    libc::close(fd);
-    n
+    done
+}
+
+// The file of a name, if there is one that can be read.
+fn opened<R: Files>(rt: &R, path: &[u8]) -> Option<R::File> {
+    match std::str::from_utf8(path) {
+        Ok(name) => fs::open(rt, name).ok(),
+        Err(_) => None,
+    }
+}
+
+// How many bytes of a file stand at the buffer's start now. Where nothing more can be written the buffer is as it was.
+pub fn read<R: Files, W: Write>(
+    rt: &R,
+    out: &mut W,
+    path: &[u8],
+    buf: &mut [u8],
+) -> io::Result<usize>
+    ensures ok { IfOk result (λ n. IsPrefixLen n buf.new) }
+    ensures err { OnErr result (buf.new ≡ buf.old) }
+{
+    match opened(rt, path) {
+        Some(mut file) => Ok(read_full(&mut file, buf)),
+        None => {
+            say(out, b"no file\n")?;
+            Ok(0)
+        }
+    }
 }
 
 // Fills the buffer from a file, or says that it could not.
-pub fn fill_from(path: &[u8], buf: &mut [u8]) {
-    if read(path, buf) < buf.len() {
-        say(b"short file\n");
+pub fn fill_from<R: Files, W: Write>(
+    rt: &R,
+    out: &mut W,
+    path: &[u8],
+    buf: &mut [u8],
+) -> io::Result<()> {
+    if read(rt, out, path, buf)? < buf.len() {
+        say(out, b"short file\n")?;
     }
+    Ok(())
 }

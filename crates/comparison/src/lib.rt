@@ -1,4 +1,6 @@
 // Comparing a verdict and its digest with the digest that the barcode sheet has.
+#![tactic(auto)]
+
 ghost use Rattle.std.specs.Prelude.{◌≡◌};
 ghost use Rattle.comparison.specs.Compare.{comparison_bytes, says_marked, comparison_of, compared_of};
 
@@ -8,7 +10,7 @@ use sheet::{lookup, lookup_refusal};
 use verdict::{DIGEST_SIZE, Verdict};
 
 // What a comparison answers.
-#[derive(Drop)]
+#[derive(Clone, Copy)]
 pub enum Comparison {
     // The verdict is ok, and the digest is the one on the sheet.
     Match,
@@ -21,7 +23,7 @@ pub enum Comparison {
 }
 
 // An answer, or why there is none.
-#[derive(Drop)]
+#[derive(Clone, Copy)]
 pub enum Compared {
     Said(Comparison),
     Refused(Refusal),

@@ -1,6 +1,8 @@
 // A lent table of bit conditions, and the vectors that it leaves for a block. A condition is 6 words: word number i, bit p,
 // word number j, bit q, the wanted value of bit p of word i `xor` bit q of word j, and the mask of the vectors that it drops if
 // the value is another.
+#![tactic(auto)]
+
 ghost use Rattle.std.specs.Prelude.{◌≡◌, ◌+◌, ◌-◌, ◌*◌, ◌%◌, ◌^◌, ◌<◌, ◌≤◌, eqb, length};
 ghost use Rattle.std.specs.Int.Bits.{bit_xor};
 ghost use Rattle.word.specs.Choice.{pick};

@@ -10,6 +10,8 @@ use flags::Flags;
 use hasher::Hasher;
 use printing::{say, say_found, say_hex_word};
 use refusal::is_nothing;
+use std::io;
+use std::io::Write;
 use step::Regs;
 use update::update;
 
@@ -49,26 +51,39 @@ fn words_before(m: &[u8], i: usize) -> [u32; 5]
 }
 
 // What comes of trying the vectors of a mask.
-fn say_tried(words: [u32; 5], block: &[u8], table: &[u32], mask: u32) {
+fn say_tried<W: Write>(
+    out: &mut W,
+    words: [u32; 5],
+    block: &[u8],
+    table: &[u32],
+    mask: u32,
+) -> io::Result<()> {
     let b = one_block(words, block, table, mask, mode_of_bits(0));
     let found = b.found;
-    say_hex_word(mask);
-    say(b" ");
-    say_found(found);
+    say_hex_word(out, mask)?;
+    say(out, b" ")?;
+    say_found(out, found)
 }
 
 // Block i of a message, where it has so many.
-pub(crate) fn say_block(line: &[u8], m: &[u8], table: &[u32], conditions: &[u32]) {
+pub(crate) fn say_block<W: Write>(
+    out: &mut W,
+    line: &[u8],
+    m: &[u8],
+    table: &[u32],
+    conditions: &[u32],
+) -> io::Result<()> {
     let i = number_at(line, 1);
     if i < m.len() / 64 {
         let at = 64 * i;
         let block = &m[at..at + 64];
         let words = words_before(m, i);
-        say(from_field(line, 2));
-        say(b": ");
-        say_tried(words, block, table, surviving_for(block, conditions));
-        say(b"; ");
-        say_tried(words, block, table, 0xFFFFFFFF);
-        say(b"\n");
+        say(out, from_field(line, 2))?;
+        say(out, b": ")?;
+        say_tried(out, words, block, table, surviving_for(block, conditions))?;
+        say(out, b"; ")?;
+        say_tried(out, words, block, table, 0xFFFFFFFF)?;
+        say(out, b"\n")?;
     }
+    Ok(())
 }

@@ -1,5 +1,9 @@
 // Runs the program with the control record and `raw`, on `hello world`, and then on the empty message.
-fn main() {
-    program_io::run();
-    program_io::run();
+#![tactic(auto)]
+
+use std::io;
+
+fn main(rt: HostRuntime) -> io::Result<()> {
+    program_io::run(&rt)?;
+    program_io::run(&rt)
 }

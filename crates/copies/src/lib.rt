@@ -1,4 +1,6 @@
 // Copies between lent slices and arrays, and numbers into an answer or a state. Each is of one fixed length, which its caller has tested.
+#![tactic(auto)]
+
 ghost use Rattle.std.specs.Prelude.{◌≡◌, [], ◌∷◌, length};
 ghost use Rattle.verdict.specs.Verdict.{digest_size};
 

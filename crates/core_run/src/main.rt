@@ -1,5 +1,7 @@
 // Runs the one-block entry on 01's bench checks, on FIPS 180-4's one-block example and on published colliding files, and
 // writes a line for each call. The file data/cases.txt has the calls, the file stdout what the lines must be.
+#![tactic(auto)]
+
 ghost use Rattle.std.specs.Prelude.{◌≡◌, length};
 
 use cases::{
@@ -9,26 +11,30 @@ use cases::{
 use detect::{Mode, OneBlock, one_block};
 use printing::{say, say_decimal, say_found, say_refusal, say_words};
 use refusal::{Refusal, is_nothing, number, place};
+use std::io;
+use std::io::{BufWriter, Write};
+use std::rt::Files;
 use table_file::{MOST_WORDS, file_fault, file_words};
 
-fn say_fault(r: Refusal) {
+fn say_fault<W: Write>(out: &mut W, r: Refusal) -> io::Result<()> {
     if !is_nothing(r) {
-        say_refusal(r);
-        say(b", ");
+        say_refusal(out, r)?;
+        say(out, b", ")?;
     }
+    Ok(())
 }
 
 // The case, the refusal's number and place, the words, and what was found.
-fn say_block(case: &[u8], b: OneBlock) {
+fn say_block<W: Write>(out: &mut W, case: &[u8], b: OneBlock) -> io::Result<()> {
     let r = b.refusal;
     let w = b.words;
     let f = b.found;
-    say(case);
-    say(b": ");
-    say_fault(r);
-    say_words(w);
-    say_found(f);
-    say(b"\n");
+    say(out, case)?;
+    say(out, b": ")?;
+    say_fault(out, r)?;
+    say_words(out, w)?;
+    say_found(out, f)?;
+    say(out, b"\n")
 }
 
 fn start() -> [u32; 5] {
@@ -49,7 +55,7 @@ fn abc() -> [u8; 128]
 }
 
 // The block of `abc`, or fewer or more bytes, with control records.
-fn control(line: &[u8]) {
+fn control<W: Write>(out: &mut W, line: &[u8]) -> io::Result<()> {
     let t = records_of(line);
     let block = abc();
     let b = one_block(
@@ -59,7 +65,7 @@ fn control(line: &[u8]) {
         word_field(line, 6),
         mode_of_bits(number_at(line, 7)),
     );
-    say_block(from_field(line, 9), b);
+    say_block(out, from_field(line, 9), b)
 }
 
 // Block i of a message, from the given words.
@@ -84,7 +90,7 @@ fn words_after(m: &[u8], n: usize, table: &[u32]) -> [u32; 5] {
 }
 
 // One block of a file.
-fn block_of(line: &[u8], m: &[u8], table: &[u32]) {
+fn block_of<W: Write>(out: &mut W, line: &[u8], m: &[u8], table: &[u32]) -> io::Result<()> {
     let i = number_at(line, 3);
     let b = nth_block(
         words_after(m, i, table),
@@ -94,20 +100,31 @@ fn block_of(line: &[u8], m: &[u8], table: &[u32]) {
         word_field(line, 4),
         mode_of_bits(number_at(line, 5)),
     );
-    say_block(from_field(line, 6), b);
+    say_block(out, from_field(line, 6), b)
 }
 
-fn front_block(line: &[u8], m: &[u8; 320], table: &[u32; MOST_WORDS]) {
-    block_of(line, front_bytes(m, number_at(line, 2)), table);
+fn front_block<W: Write>(
+    out: &mut W,
+    line: &[u8],
+    m: &[u8; 320],
+    table: &[u32; MOST_WORDS],
+) -> io::Result<()> {
+    block_of(out, line, front_bytes(m, number_at(line, 2)), table)
 }
 
-fn published(line: &[u8], table: &[u32; MOST_WORDS]) {
+fn published<R: Files, W: Write>(
+    rt: &R,
+    out: &mut W,
+    line: &[u8],
+    table: &[u32; MOST_WORDS],
+) -> io::Result<()> {
     let mut m = [0u8; 320];
     let n = number_at(line, 2);
     if n <= 320 {
-        fill_from(field(line, 1), &mut m[0..n]);
-        front_block(line, &m, table);
+        fill_from(rt, out, field(line, 1), &mut m[0..n])?;
+        front_block(out, line, &m, table)?;
     }
+    Ok(())
 }
 
 // A byte of a file that was read, changed.
@@ -117,56 +134,73 @@ fn set_byte(bytes: &mut [u8], at: usize, b: u8) {
     }
 }
 
-fn say_file_fault(line: &[u8], r: Refusal) {
-    say(from_field(line, 4));
-    say(b": ");
-    say_decimal(number(r) as u64);
-    say(b" at ");
-    say_decimal(place(r) as u64);
-    say(b"\n");
+fn say_file_fault<W: Write>(out: &mut W, line: &[u8], r: Refusal) -> io::Result<()> {
+    say(out, from_field(line, 4))?;
+    say(out, b": ")?;
+    say_decimal(out, number(r) as u64)?;
+    say(out, b" at ")?;
+    say_decimal(out, place(r) as u64)?;
+    say(out, b"\n")
 }
 
 // What is wrong with the first bytes of a table file, one byte of which a case may change. The file has a record more than a
 // table can have.
-fn table_file(line: &[u8]) {
+fn table_file<R: Files, W: Write>(rt: &R, out: &mut W, line: &[u8]) -> io::Result<()> {
     let mut bytes = [0u8; 10824];
-    fill_from(b"longer-table.bin", &mut bytes);
+    fill_from(rt, out, b"longer-table.bin", &mut bytes)?;
     set_byte(
         &mut bytes,
         number_at(line, 2),
         (number_at(line, 3) % 256) as u8,
     );
-    say_file_fault(line, file_fault(front_bytes(&bytes, number_at(line, 1))));
+    say_file_fault(
+        out,
+        line,
+        file_fault(front_bytes(&bytes, number_at(line, 1))),
+    )
 }
 
 // A line of the cases: `#` begins a comment, `=` a title.
-fn one(line: &[u8], table: &[u32; MOST_WORDS]) {
+fn one<R: Files, W: Write>(
+    rt: &R,
+    out: &mut W,
+    line: &[u8],
+    table: &[u32; MOST_WORDS],
+) -> io::Result<()> {
     if line.len() == 0 {
-        return;
+        return Ok(());
     }
     match line[0] {
-        b'c' => control(line),
-        b'f' => table_file(line),
-        b'p' => published(line, table),
-        b'=' => say_title(line),
-        _ => return,
+        b'c' => control(out, line),
+        b'f' => table_file(rt, out, line),
+        b'p' => published(rt, out, line, table),
+        b'=' => say_title(out, line),
+        _ => Ok(()),
     }
 }
 
-fn each(text: &[u8], table: &[u32; MOST_WORDS]) {
+fn each<R: Files, W: Write>(
+    rt: &R,
+    out: &mut W,
+    text: &[u8],
+    table: &[u32; MOST_WORDS],
+) -> io::Result<()> {
     let mut at = 0;
     while at < text.len() {
-        one(line_at(text, at), table);
+        one(rt, out, line_at(text, at), table)?;
         at = next_line(text, at);
     }
+    Ok(())
 }
 
 // The cases, with the table of a file.
-fn main() {
+fn main(rt: HostRuntime) -> io::Result<()> {
+    let mut out = BufWriter::new(rt.alloc(), io::writer(&rt))?;
     let mut text = page();
     let mut bytes = [0u8; 10496];
-    let n = read(b"cases.txt", &mut text);
-    fill_from(b"real-table.bin", &mut bytes);
+    let n = read(&rt, &mut out, b"cases.txt", &mut text)?;
+    fill_from(&rt, &mut out, b"real-table.bin", &mut bytes)?;
     let table = file_words(&bytes);
-    each(&text[..n], &table);
+    each(&rt, &mut out, &text[..n], &table)?;
+    out.flush()
 }

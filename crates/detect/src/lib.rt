@@ -1,4 +1,6 @@
 // One block with collision detection: compressed, searched for a vector that marks it, and mitigated; and the one-block entry.
+#![tactic(auto)]
+
 ghost use Rattle.std.specs.Prelude.{◌≡◌, ◌&&◌, length};
 ghost use Rattle.word.specs.Choice.{pick};
 ghost use Rattle.block.specs.Compress.{states_of};
@@ -14,7 +16,7 @@ use step::{Regs, five_of, regs_of};
 use table::table_fault;
 
 // How a marked block is dealt with, and what marks one.
-#[derive(Drop)]
+#[derive(Clone, Copy)]
 pub struct Mode {
     // The output of a marked block is compressed twice more.
     pub mitigate: bool,
@@ -23,14 +25,14 @@ pub struct Mode {
 }
 
 // What compressing a block with detection gives.
-#[derive(Drop)]
+#[derive(Clone, Copy)]
 pub struct Answer {
     pub words: Regs,
     pub found: Found,
 }
 
 // What the one-block entry gives.
-#[derive(Drop)]
+#[derive(Clone, Copy)]
 pub struct OneBlock {
     pub refusal: Refusal,
     pub words: [u32; 5],

@@ -2,6 +2,8 @@
 // Where a caller breaks the header's agreement on lengths, marks, flags and verdicts, a call returns 255 and changes
 // nothing: the caller is told so instead of being trapped. Only what stands in this crate gets into the static
 // library, so each call has its name here and its work in the crates below.
+#![tactic(auto)]
+
 ghost use Rattle.std.specs.Prelude.{◌≡◌, [], ◌∷◌};
 ghost use Rattle.loan.specs.Loan.{loan_of};
 ghost use Rattle.answers.specs.Answers.{left};

@@ -1,4 +1,6 @@
 // Finishing a message: the last blocks, the digest and the verdict.
+#![tactic(auto)]
+
 ghost use Rattle.std.specs.Prelude.{◌≡◌, true, length};
 ghost use Rattle.conditions.specs.Good.{GoodConditions};
 ghost use Rattle.loan.specs.Loan.{loan_of, conditions_for};
@@ -14,14 +16,14 @@ use stream::{Chain, FirstMark, fold_blocks};
 use verdict::{DIGEST_SIZE, Verdict, verdict_of};
 
 // The verdict, or what was refused.
-#[derive(Drop)]
+#[derive(Clone, Copy)]
 pub enum Outcome {
     Done(Verdict),
     Refused(Refusal),
 }
 
 // What a finish gives: 20 zeros for the digest on a refusal.
-#[derive(Drop)]
+#[derive(Clone, Copy)]
 pub struct Finished {
     pub outcome: Outcome,
     pub digest: [u8; DIGEST_SIZE],
@@ -31,7 +33,7 @@ pub struct Finished {
 }
 
 // What a finish-and-reset gives beside the bytes that it writes.
-#[derive(Drop)]
+#[derive(Clone, Copy)]
 pub struct FinishedReset {
     pub outcome: Outcome,
     pub first: FirstMark,

@@ -1,4 +1,6 @@
 // FIPS 180-4's message: its padding, its blocks hashed one after the other, and the digest that they end in.
+#![tactic(auto)]
+
 ghost use Rattle.std.specs.Prelude.{◌≡◌, ◌+◌, ◌*◌, ◌/◌, ◌≤◌, length, take};
 ghost use Rattle.std.proofs.Math.Seq.{paste};
 ghost use Rattle.octets.specs.Octets.{bytes32};

@@ -4,6 +4,9 @@ ghost use Rattle.table_file.specs.File.{most_words, file_words};
 ghost use Rattle.first_run.specs.Given.{masks_of};
 
 use cases::{field, fill_from, number_at, word_field};
+use std::io;
+use std::io::Write;
+use std::rt::Files;
 use table_file::{MOST_WORDS, file_words};
 
 // Bytes in the longest message.
@@ -17,23 +20,31 @@ fn words_of(bytes: &[u8; 10496]) -> [u32; MOST_WORDS]
 }
 
 // The words of the table file that field 1 names, of as many bytes as field 2 says.
-pub(crate) fn table_of(line: &[u8]) -> [u32; MOST_WORDS] {
+pub(crate) fn table_of<R: Files, W: Write>(
+    rt: &R,
+    out: &mut W,
+    line: &[u8],
+) -> io::Result<[u32; MOST_WORDS]> {
     let mut bytes = [0u8; 10496];
     let n = number_at(line, 2);
     if n <= 10496 {
-        fill_from(field(line, 1), &mut bytes[0..n]);
+        fill_from(rt, out, field(line, 1), &mut bytes[0..n])?;
     }
-    words_of(&bytes)
+    Ok(words_of(&bytes))
 }
 
 // The first bytes of the file that field 12 names, as many as field 13 says, and zeros behind them.
-pub(crate) fn message_of(line: &[u8]) -> [u8; MOST_BYTES] {
+pub(crate) fn message_of<R: Files, W: Write>(
+    rt: &R,
+    out: &mut W,
+    line: &[u8],
+) -> io::Result<[u8; MOST_BYTES]> {
     let mut m = [0u8; MOST_BYTES];
     let n = number_at(line, 13);
     if n <= MOST_BYTES {
-        fill_from(field(line, 12), &mut m[0..n]);
+        fill_from(rt, out, field(line, 12), &mut m[0..n])?;
     }
-    m
+    Ok(m)
 }
 
 // The masks of fields 4 to 11, one for each block.

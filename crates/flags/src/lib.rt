@@ -1,9 +1,11 @@
 // The settings of a hasher: what the Rust's Builder holds.
+#![tactic(auto)]
+
 ghost use Rattle.std.specs.Prelude.{◌≡◌};
 ghost use Rattle.flags.specs.Flags.{is_lent, is_conditions, uses_masks, uses_conditions, defaults, with_detect, with_mitigate, with_masks, masks_of, conditions_of, with_reduced};
 
 // Which vectors a block is tried with: all of them, those of the mask lent for it, or those that survive the lent conditions.
-#[derive(Drop)]
+#[derive(Clone, Copy)]
 pub enum Masks {
     All,
     Lent,
@@ -11,7 +13,7 @@ pub enum Masks {
 }
 
 // What the Rust's Builder holds.
-#[derive(Drop)]
+#[derive(Clone, Copy)]
 pub struct Flags {
     pub detect: bool,
     pub mitigate: bool,

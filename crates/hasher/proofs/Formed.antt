@@ -20,7 +20,7 @@ pub record Formed (h : Hasher) : Type 0 where
   pub fill-le : h.fill ≤ 63
   pub blocks-le : h.blocks ≤ most_blocks
   pub zeros : all_zero (drop h.fill h.pending) ≡ true
-  pub mark_fits_lem : mark_fits h.flags.detect h.mark h.first h.blocks ≡ true
+  pub mark-fits : mark_fits h.flags.detect h.mark h.first h.blocks ≡ true
 
 pub formed : (h : Hasher) → well_formed h ≡ true → Formed h
 unfolding well_formed
@@ -28,7 +28,7 @@ formed h e =
     let p = both_true (leb h.fill 63) _ e in
     let q = both_true (leb h.blocks most_blocks) _ p.1 in
     let r = both_true (all_zero (drop h.fill h.pending)) _ q.1 in
-    record { fill-le = leb-true _ _ p.0; blocks-le = leb-true _ _ q.0; zeros = r.0; mark_fits_lem = r.1 }
+    record { fill-le = leb-true _ _ p.0; blocks-le = leb-true _ _ q.0; zeros = r.0; mark-fits = r.1 }
 
 -- one that has come to a chain whose blocks are in range, with fewer bytes than a block left
 pub at-formed : (f : Flags) (c : Chain) (rest : List ℕ) → length rest ≤ 63 → c.blocks ≤ most_blocks → MarkRight f.detect c

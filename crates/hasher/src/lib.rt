@@ -1,4 +1,6 @@
 // The hasher: what it holds between the pieces of a message, when it is well formed, and its reset.
+#![tactic(auto)]
+
 ghost use Rattle.std.specs.Prelude.{◌≡◌, ◌≤◌, drop};
 ghost use Rattle.stream.specs.Fold.{mark_fits};
 ghost use Rattle.hasher.specs.Hasher.{all_zero, well_formed, chain_of, hasher_with, fresh_of, reset_of};
@@ -12,7 +14,7 @@ use table::MOST_RECORDS;
 // The largest block count.
 pub const MOST_BLOCKS: u64 = 0x7FFFFFFFFFFFFF;
 
-#[derive(Drop)]
+#[derive(Clone, Copy)]
 pub struct Hasher {
     pub words: [u32; 5],
     // The bytes of the block that is not full yet, with zeros behind them.
@@ -26,7 +28,7 @@ pub struct Hasher {
 }
 
 // A refusal or none, and the hasher: changed only where nothing is refused.
-#[derive(Drop)]
+#[derive(Clone, Copy)]
 pub struct Updated {
     pub refusal: Refusal,
     pub hasher: Hasher,

@@ -12,7 +12,7 @@ use one_shot::one_shot;
 use update::update;
 
 // What came of a message, and the hasher for the next.
-#[derive(Drop)]
+#[derive(Clone, Copy)]
 pub struct Ended {
     pub outcome: Outcome,
     pub digest: [u8; 20],

@@ -4,7 +4,10 @@ ghost use Rattle.std.specs.Prelude.{◌≤◌};
 use crate::ended::end_by;
 use cases::{flags_of_bits, from_field, number_at};
 use hasher::Hasher;
+use octets::same_bytes;
 use printing::{say, say_decimal};
+use std::io;
+use std::io::Write;
 
 // In the file, one after the other: a byte with the message's length, the message, its digest.
 const MESSAGES: usize = 65;
@@ -40,7 +43,7 @@ fn part(file: &[u8], from: usize, n: usize) -> &[u8] {
 fn equal(digest: &[u8; 20], published: &[u8]) -> usize
     ensures { result ≤ 1 }
 {
-    if check::same(digest, published) {
+    if same_bytes(digest, published) {
         return 1;
     }
     0
@@ -64,11 +67,17 @@ fn right(line: &[u8], file: &[u8], table: &[u32], masks: &[u32]) -> usize {
     count
 }
 
-pub(crate) fn count(line: &[u8], file: &[u8; 3445], table: &[u32], masks: &[u32]) {
-    say(from_field(line, 10));
-    say(b": ");
-    say_decimal(right(line, file, table, masks) as u64);
-    say(b" of ");
-    say_decimal(MESSAGES as u64);
-    say(b"\n");
+pub(crate) fn count<W: Write>(
+    out: &mut W,
+    line: &[u8],
+    file: &[u8; 3445],
+    table: &[u32],
+    masks: &[u32],
+) -> io::Result<()> {
+    say(out, from_field(line, 10))?;
+    say(out, b": ")?;
+    say_decimal(out, right(line, file, table, masks) as u64)?;
+    say(out, b" of ")?;
+    say_decimal(out, MESSAGES as u64)?;
+    say(out, b"\n")
 }

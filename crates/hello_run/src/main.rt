@@ -1,5 +1,9 @@
 // Runs the program on `hello world` with no argument. The second time nothing is left of the message, which is the empty one.
-fn main() {
-    program_io::run();
-    program_io::run();
+#![tactic(auto)]
+
+use std::io;
+
+fn main(rt: HostRuntime) -> io::Result<()> {
+    program_io::run(&rt)?;
+    program_io::run(&rt)
 }

@@ -1,4 +1,6 @@
 // An update where the hasher lies, as the Rust's `Update::update` is. It is thin: the by-value update does the work.
+#![tactic(auto)]
+
 ghost use Rattle.std.specs.Prelude.{◌≡◌};
 ghost use Rattle.loan.specs.Loan.{loan_of};
 ghost use Rattle.update.specs.Update.{updated};

@@ -1,4 +1,6 @@
 // The lanes of a bench: which of them a call can name.
+#![tactic(auto)]
+
 ghost use Rattle.std.specs.Prelude.{◌≡◌};
 ghost use Rattle.lane.specs.Lane.{has_lane};
 

@@ -1,5 +1,7 @@
 // How numbers, flags, verdicts and a hasher lie in the memory that a caller lends: read from it, written to it, and
 // the tests that it is of the right form.
+#![tactic(auto)]
+
 ghost use Rattle.std.specs.Prelude.{◌≡◌, ◌&&◌, ◌<◌, eqb, length};
 ghost use Rattle.verdict.specs.Verdict.{digest_size};
 ghost use Rattle.layout.specs.Layout.{bit_of, has_worth, flags_known, masks_in, flags_in, masks_worth, flags_number, hasher_in, state_of, state_fits, hasher_fits, new_fits, verdict_number, verdict_known, verdict_for};

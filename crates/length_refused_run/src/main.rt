@@ -1,4 +1,8 @@
 // Runs the program with a table file that is a byte short of a record.
-fn main() {
-    program_io::run();
+#![tactic(auto)]
+
+use std::io;
+
+fn main(rt: HostRuntime) -> io::Result<()> {
+    program_io::run(&rt)
 }

@@ -1,4 +1,6 @@
 // The two ways to end a message on a hasher that lies in lent memory: finish, and finish and reset.
+#![tactic(auto)]
+
 ghost use Rattle.std.specs.Prelude.{◌≡◌, [], ◌∷◌};
 ghost use Rattle.loan.specs.Loan.{loan_of};
 ghost use Rattle.answers.specs.Answers.{left};

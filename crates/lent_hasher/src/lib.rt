@@ -1,4 +1,6 @@
 // The calls on a hasher that lies in lent memory and goes on: new, update and reset.
+#![tactic(auto)]
+
 ghost use Rattle.std.specs.Prelude.{◌≡◌, [], ◌∷◌};
 ghost use Rattle.loan.specs.Loan.{loan_of};
 ghost use Rattle.answers.specs.Answers.{left};

@@ -1,4 +1,6 @@
 // The calls on a lent sheet: looking a barcode up, and comparing a verdict and its digest.
+#![tactic(auto)]
+
 ghost use Rattle.std.specs.Prelude.{◌≡◌, [], ◌∷◌, length};
 ghost use Rattle.comparison.specs.Compare.{compared_number};
 ghost use Rattle.answers.specs.Answers.{left};

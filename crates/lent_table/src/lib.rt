@@ -1,5 +1,7 @@
 // The calls on a lent table that have no hasher: one block, a whole message in one call, and the checks of a table of vectors
 // and of one of conditions.
+#![tactic(auto)]
+
 ghost use Rattle.std.specs.Prelude.{◌≡◌, [], ◌∷◌};
 ghost use Rattle.loan.specs.Loan.{loan_of};
 ghost use Rattle.answers.specs.Answers.{left};

@@ -1,4 +1,6 @@
 // The line that the program writes.
+#![tactic(auto)]
+
 ghost use Rattle.std.specs.Prelude.{◌≡◌, [], ◌+◌, ◌/◌, ◌%◌, ◌≤◌, ◌<◌, length};
 ghost use Rattle.verdict.specs.Verdict.{verdict_word};
 ghost use Rattle.line.specs.Line.{hex_digit, hex_of, decimal_of, verdict_text, refused_text, ended, line_of, line_with, written};
@@ -11,7 +13,7 @@ use verdict::Verdict;
 const UNREAD: u32 = 16;
 
 // What the program has to say.
-#[derive(Drop)]
+#[derive(Clone, Copy)]
 pub enum Saying {
     Verdict(Verdict),
     Refused(Refusal),
@@ -20,7 +22,7 @@ pub enum Saying {
 }
 
 // A line: the first len bytes.
-#[derive(Drop)]
+#[derive(Clone, Copy)]
 pub struct Line {
     pub bytes: [u8; 64],
     pub len: usize,

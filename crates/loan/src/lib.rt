@@ -1,4 +1,6 @@
 // What is lent to a call: what its flags ask for of the masks and the conditions, and what it refuses.
+#![tactic(auto)]
+
 ghost use Rattle.std.specs.Prelude.{◌≡◌, [], drop};
 ghost use Rattle.word.specs.Choice.{pick};
 ghost use Rattle.loan.specs.Loan.{loan_of, tables_of, looked_at, conditions_for, masks_wrong, conditions_refusal, vectors_refusal, tables_refusal, loan_refusal};

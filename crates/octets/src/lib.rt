@@ -1,4 +1,6 @@
 // Bytes: whether two slices have the same, copies of them, and numbers in bytes, the high byte first.
+#![tactic(auto)]
+
 ghost use Rattle.std.specs.Prelude.{◌≡◌, ◌+◌, ◌≤◌, length};
 ghost use Rattle.std.proofs.Math.Seq.{paste};
 ghost use Rattle.octets.specs.Octets.{same_bytes, be32, bytes32, bytes64};

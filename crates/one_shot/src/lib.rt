@@ -1,4 +1,6 @@
 // A whole message in one call: the update and the finish of a new hasher.
+#![tactic(auto)]
+
 ghost use Rattle.std.specs.Prelude.{◌≡◌, []};
 ghost use Rattle.loan.specs.Loan.{loan_of};
 ghost use Rattle.one_shot.specs.Whole.{whole_refusal, whole_of, digested};
@@ -15,7 +17,7 @@ use update::MOST_BYTES;
 use verdict::verdict_of;
 
 // What the call gives: 20 zeros for the digest on a refusal.
-#[derive(Drop)]
+#[derive(Clone, Copy)]
 pub struct Digested {
     pub outcome: Outcome,
     pub digest: [u8; 20],

@@ -1,4 +1,6 @@
 // What the program's arguments ask, by what fetching them answered, and what is done by that.
+#![tactic(auto)]
+
 ghost use Rattle.std.specs.Prelude.{◌≡◌};
 ghost use Rattle.plan.specs.Given.{argument_of, kind_read, placed_at, nothing_asked, asked_with, plan_of};
 
@@ -6,14 +8,14 @@ use arguments::{ArgumentKind, Setting, kind_of};
 use line::Saying;
 
 // What the arguments ask, and which one names the table.
-#[derive(Drop)]
+#[derive(Clone, Copy)]
 pub struct Asked {
     pub setting: Setting,
     pub place: usize,
 }
 
 // What is done by what the arguments ask.
-#[derive(Drop)]
+#[derive(Clone, Copy)]
 pub enum Plan {
     // This is said, and the message is not read.
     AtOnce(Saying),

@@ -1,165 +1,169 @@
-// What the programs that run the library write. No function here has a result: each only writes to standard output.
+// What the programs that run the library write. No function here answers anything but whether the writer took it.
+#![tactic(auto)]
+
 use finish::Outcome;
 use flags::{Flags, Masks};
 use hasher::Hasher;
-use libc::STDOUT_FILENO;
 use refusal::{Refusal, is_nothing, number, place};
 use search::Found;
+use std::io;
+use std::io::Write;
 use stream::FirstMark;
 use verdict::Verdict;
 
-pub fn say(text: &[u8]) {
-    io::write_all(STDOUT_FILENO, text);
+pub fn say<W: Write>(out: &mut W, text: &[u8]) -> io::Result<()> {
+    out.write_all(text)
 }
 
-pub fn say_decimal(n: u64) {
-    io::print_decimal(STDOUT_FILENO, n);
+pub fn say_decimal<W: Write>(out: &mut W, n: u64) -> io::Result<()> {
+    write!(out, "{n}")
 }
 
-fn say_byte(b: u8) {
-    io::print_hex(STDOUT_FILENO, b as u64, 2);
+fn say_byte<W: Write>(out: &mut W, b: u8) -> io::Result<()> {
+    write!(out, "{b:02x}")
 }
 
 // Bytes in hex, with nothing between them.
-pub fn say_hex(bytes: &[u8]) {
-    for i in 0..bytes.len() {
-        say_byte(bytes[i]);
+pub fn say_hex<W: Write>(out: &mut W, bytes: &[u8]) -> io::Result<()> {
+    for b in bytes {
+        say_byte(out, *b)?;
     }
+    Ok(())
 }
 
 // A word in hex.
-pub fn say_hex_word(x: u32) {
-    io::print_hex(STDOUT_FILENO, x as u64, 8);
+pub fn say_hex_word<W: Write>(out: &mut W, x: u32) -> io::Result<()> {
+    write!(out, "{x:08x}")
 }
 
-fn say_word(x: u32) {
-    say_hex_word(x);
-    say(b" ");
+fn say_word<W: Write>(out: &mut W, x: u32) -> io::Result<()> {
+    say_hex_word(out, x)?;
+    say(out, b" ")
 }
 
 // Five words in hex, each with a space behind it.
-pub fn say_words(w: [u32; 5]) {
-    say_word(w[0]);
-    say_word(w[1]);
-    say_word(w[2]);
-    say_word(w[3]);
-    say_word(w[4]);
+pub fn say_words<W: Write>(out: &mut W, w: [u32; 5]) -> io::Result<()> {
+    say_word(out, w[0])?;
+    say_word(out, w[1])?;
+    say_word(out, w[2])?;
+    say_word(out, w[3])?;
+    say_word(out, w[4])
 }
 
-fn say_mark(mark: bool) {
+fn say_mark<W: Write>(out: &mut W, mark: bool) -> io::Result<()> {
     if mark {
-        say(b"marked by ");
+        say(out, b"marked by ")
     } else {
-        say(b"unmarked, place ");
+        say(out, b"unmarked, place ")
     }
 }
 
 // What came of trying a block's vectors.
-pub fn say_found(f: Found) {
-    say_mark(f.mark);
-    say_decimal(f.place as u64);
-    say(b", tried ");
-    say_decimal(f.tried as u64);
+pub fn say_found<W: Write>(out: &mut W, f: Found) -> io::Result<()> {
+    say_mark(out, f.mark)?;
+    say_decimal(out, f.place as u64)?;
+    say(out, b", tried ")?;
+    say_decimal(out, f.tried as u64)
 }
 
 // A number of the paper's table, and the place of the record that decides.
-pub fn say_refusal(r: Refusal) {
-    say(b"refused ");
-    say_decimal(number(r) as u64);
-    say(b" at ");
-    say_decimal(place(r) as u64);
+pub fn say_refusal<W: Write>(out: &mut W, r: Refusal) -> io::Result<()> {
+    say(out, b"refused ")?;
+    say_decimal(out, number(r) as u64)?;
+    say(out, b" at ")?;
+    say_decimal(out, place(r) as u64)
 }
 
 // What a call says that gives only a refusal or none.
-pub fn say_accepted(r: Refusal) {
+pub fn say_accepted<W: Write>(out: &mut W, r: Refusal) -> io::Result<()> {
     if is_nothing(r) {
-        say(b"accepted");
+        say(out, b"accepted")
     } else {
-        say_refusal(r);
+        say_refusal(out, r)
     }
 }
 
-fn say_verdict(v: Verdict) {
+fn say_verdict<W: Write>(out: &mut W, v: Verdict) -> io::Result<()> {
     match v {
-        Verdict::Ok => say(b"ok"),
-        Verdict::Mitigated => say(b"mitigated"),
-        Verdict::Collision => say(b"collision"),
+        Verdict::Ok => say(out, b"ok"),
+        Verdict::Mitigated => say(out, b"mitigated"),
+        Verdict::Collision => say(out, b"collision"),
     }
 }
 
-pub fn say_outcome(o: Outcome) {
+pub fn say_outcome<W: Write>(out: &mut W, o: Outcome) -> io::Result<()> {
     match o {
-        Outcome::Done(v) => say_verdict(v),
-        Outcome::Refused(r) => say_refusal(r),
+        Outcome::Done(v) => say_verdict(out, v),
+        Outcome::Refused(r) => say_refusal(out, r),
     }
 }
 
 // The verdict or the refusal, and the digest.
-pub fn say_answer(o: Outcome, digest: &[u8; 20]) {
-    say_outcome(o);
-    say(b" ");
-    say_hex(digest);
+pub fn say_answer<W: Write>(out: &mut W, o: Outcome, digest: &[u8; 20]) -> io::Result<()> {
+    say_outcome(out, o)?;
+    say(out, b" ")?;
+    say_hex(out, digest)
 }
 
 // The verdict or the refusal, and all of the bytes of which the first were lent as the output.
-pub fn say_out(o: Outcome, out: &[u8; 24]) {
-    say_outcome(o);
-    say(b" ");
-    say_hex(out);
+pub fn say_out<W: Write>(out: &mut W, o: Outcome, lent: &[u8; 24]) -> io::Result<()> {
+    say_outcome(out, o)?;
+    say(out, b" ")?;
+    say_hex(out, lent)
 }
 
-fn say_switch(name: &[u8], on: bool) {
-    say(name);
+fn say_switch<W: Write>(out: &mut W, name: &[u8], on: bool) -> io::Result<()> {
+    say(out, name)?;
     if on {
-        say(b" on");
+        say(out, b" on")
     } else {
-        say(b" off");
+        say(out, b" off")
     }
 }
 
-fn say_masks(m: Masks) {
+fn say_masks<W: Write>(out: &mut W, m: Masks) -> io::Result<()> {
     match m {
-        Masks::All => say(b", masks off"),
-        Masks::Lent => say(b", masks on"),
-        Masks::Conditions => say(b", conditions"),
+        Masks::All => say(out, b", masks off"),
+        Masks::Lent => say(out, b", masks on"),
+        Masks::Conditions => say(out, b", conditions"),
     }
 }
 
-pub fn say_flags(f: Flags) {
+pub fn say_flags<W: Write>(out: &mut W, f: Flags) -> io::Result<()> {
     let m = f.masks;
-    say_switch(b"detection", f.detect);
-    say_switch(b", mitigation", f.mitigate);
-    say_masks(m);
-    say_switch(b", reduced rounds", f.reduced);
+    say_switch(out, b"detection", f.detect)?;
+    say_switch(out, b", mitigation", f.mitigate)?;
+    say_masks(out, m)?;
+    say_switch(out, b", reduced rounds", f.reduced)
 }
 
-fn say_pending(pending: &[u8; 64]) {
-    say_hex(pending);
+fn say_pending<W: Write>(out: &mut W, pending: &[u8; 64]) -> io::Result<()> {
+    say_hex(out, pending)
 }
 
 // The first marked block and the place of the vector that marked it; zeros where none was.
-pub fn say_first(first: FirstMark) {
-    say(b"first block ");
-    say_decimal(first.block);
-    say(b", place ");
-    say_decimal(first.place as u64);
+pub fn say_first<W: Write>(out: &mut W, first: FirstMark) -> io::Result<()> {
+    say(out, b"first block ")?;
+    say_decimal(out, first.block)?;
+    say(out, b", place ")?;
+    say_decimal(out, first.place as u64)
 }
 
 // Every field of a hasher.
-pub fn say_hasher(h: Hasher) {
+pub fn say_hasher<W: Write>(out: &mut W, h: Hasher) -> io::Result<()> {
     let words = h.words;
     let pending = h.pending;
     let flags = h.flags;
     let first = h.first;
-    say_words(words);
-    say_pending(&pending);
-    say(b" fill ");
-    say_decimal(h.fill as u64);
-    say(b", blocks ");
-    say_decimal(h.blocks);
-    say_switch(b", mark", h.mark);
-    say(b", ");
-    say_first(first);
-    say(b", ");
-    say_flags(flags);
+    say_words(out, words)?;
+    say_pending(out, &pending)?;
+    say(out, b" fill ")?;
+    say_decimal(out, h.fill as u64)?;
+    say(out, b", blocks ")?;
+    say_decimal(out, h.blocks)?;
+    say_switch(out, b", mark", h.mark)?;
+    say(out, b", ")?;
+    say_first(out, first)?;
+    say(out, b", ")?;
+    say_flags(out, flags)
 }

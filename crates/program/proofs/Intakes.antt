@@ -9,8 +9,6 @@ use lib.IntN.{ℤ, pos, negsuc}
 use lib.ListN.{length}
 use lib.Seq.{length-take-le}
 use Rattle.word.specs.Choice.{pick}
-use Rattle.io.specs.Counts.{clamp_len}
-use Rattle.libc.specs.Io.{Moved}
 use Rattle.refusal.specs.declared.Refusal.TheVariants.{Nothing}
 use Rattle.refusal.proofs.Chains.{nothing_is}
 use Rattle.fips.specs.Fips.{most_bytes}
@@ -20,7 +18,7 @@ use Rattle.update.specs.Update.{updated}
 use Rattle.hasher.specs.declared.Hasher.{Hasher}
 use Rattle.update.proofs.Taken.{update-taken, taken-update}
 use Rattle.update.proofs.Absorbed.{pending-after, taken-after}
-use Rattle.reads.specs.Reads.{Read, size_read, bytes_read, gave_none, Possible}
+use Rattle.reads.specs.Reads.{Moved, clamp_len, Read, size_read, bytes_read, gave_none, Possible}
 use Rattle.program.specs.Intakes.{no_intake, message_end, intake_by, intake_with, intake_of}
 use Rattle.program.specs.declared.Intake.{Intake}
 

@@ -1,4 +1,6 @@
 // What the program makes of the message that it reads, and what it replies.
+#![tactic(auto)]
+
 ghost use Rattle.std.specs.Prelude.{◌≡◌};
 ghost use Rattle.reads.specs.Reads.{read_of};
 ghost use Rattle.program.specs.Intakes.{no_intake, message_end, intake_with};
@@ -7,13 +9,13 @@ ghost use Rattle.program.specs.Reply.{without_digest, finish_reply, intake_reply
 use finish::{Finished, Outcome, finish};
 use hasher::Hasher;
 use line::Saying;
-use reads::is_error;
+use reads::{count, is_error};
 use refusal::{Refusal, is_nothing};
 use update::update;
 use verdict::DIGEST_SIZE;
 
 // What came of reading the message so far: the updates, whether a read failed, and whether there is more to read.
-#[derive(Drop)]
+#[derive(Clone, Copy)]
 pub struct Intake {
     pub refusal: Refusal,
     pub failed: bool,
@@ -22,7 +24,7 @@ pub struct Intake {
 }
 
 // What is to be written.
-#[derive(Drop)]
+#[derive(Clone, Copy)]
 pub struct Reply {
     pub saying: Saying,
     pub digest: [u8; DIGEST_SIZE],
@@ -56,7 +58,7 @@ fn message_end(got: isize, h: Hasher) -> Intake
 pub fn intake_with(h: Hasher, table: &[u32], got: isize, buf: &[u8]) -> Intake
     ensures { result ≡ intake_with h table.now (read_of got buf.now) }
 {
-    let n = io::count(got, buf);
+    let n = count(got, buf);
     if n == 0 {
         return message_end(got, h);
     }

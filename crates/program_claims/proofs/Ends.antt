@@ -9,8 +9,6 @@ use lib.Dec.{eqb}
 use lib.IntN.{ℤ, pos, negsuc}
 use lib.ListN.{length}
 use Rattle.word.specs.Choice.{pick}
-use Rattle.io.specs.Counts.{clamp_len}
-use Rattle.libc.specs.Io.{Moved}
 use Rattle.refusal.specs.Refusal.{is_nothing}
 use Rattle.refusal.specs.declared.Refusal.TheVariants.{Nothing}
 use Rattle.loan.specs.Loan.{tables_of, loan_of}
@@ -18,7 +16,7 @@ use Rattle.update.specs.Update.{updated}
 use Rattle.hasher.specs.declared.Hasher.{Hasher}
 use Rattle.claims.specs.Pieces.{Piece, piecewise}
 use Rattle.claims.proofs.Piecewise.{piecewise-nil, piecewise-cons}
-use Rattle.reads.specs.Reads.{Read, below0, bytes_read, gave_none, Possible}
+use Rattle.reads.specs.Reads.{Moved, clamp_len, Read, below0, bytes_read, gave_none, Possible}
 use Rattle.program.specs.Intakes.{message_end, intake_by, intake_of}
 use Rattle.program_claims.specs.Ends.{calls, AllGave, Ends, Passed}
 use Rattle.program.proofs.Intakes.{with-end, with-bytes, intake-nil, intake-cons}

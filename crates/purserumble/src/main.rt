@@ -1,4 +1,8 @@
 // The program: it reads a message on standard input and writes one line.
-fn main() {
-    program_io::run();
+#![tactic(auto)]
+
+use std::io;
+
+fn main(rt: HostRuntime) -> io::Result<()> {
+    program_io::run(&rt)
 }

@@ -1,7 +1,24 @@
 -- What a read gives. No contract can say which bytes come, so all is said of what the reads answered.
-use Rattle.std.specs.Prelude.{Bool, true, false, List, [], ◌∷◌, ℕ, eqb, length, take, ℤ, pos, negsuc}
-use Rattle.io.specs.Counts.{clamp_len}
-use Rattle.libc.specs.Io.{Moved}
+use Rattle.std.specs.Prelude.{◌≡◌, Bool, true, false, List, [], ◌∷◌, ℕ, ◌≤◌, eqb, min, length, take, ℤ, pos, negsuc, Result, Ok, Err}
+
+-- what a read answered, as a number: how many bytes it gave, or -1 for an error
+abbrev pub answer_of : {E : Type 0} → Result ℕ E → ℤ
+answer_of (Ok n) = pos n
+answer_of (Err e) = negsuc 0
+
+-- what a read into a buffer of n bytes may answer: -1, or how many bytes it put there, at most n
+abbrev pub Moved : ℕ → ℤ → Type 0
+Moved n (pos k) = k ≤ n
+Moved n (negsuc k) = k ≡ 0
+
+-- an answer brought into 0 to `most`
+abbrev pub clamp_len : ℤ → ℕ → ℕ
+clamp_len (pos k) most = min k most
+clamp_len (negsuc k) most = 0
+
+-- n bytes can be taken from the start of a buffer
+abbrev pub IsPrefixLen : ℕ → List ℕ → Type 0
+IsPrefixLen n xs = (n ≤ length xs) × (n ≡ length (take n xs))
 
 -- what a read answered, and the buffer after it
 pub record Read : Type 0 where

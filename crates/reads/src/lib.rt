@@ -1,25 +1,30 @@
-// What the program's reads give: whether a call of C's failed, and what came of a table file.
+// What the program's reads give: what a read answered, how many bytes it gave or that it failed, and what came of a table file.
+// An answer is a number, as C's own calls have it: how many bytes were read, or -1 for an error.
+#![tactic(auto)]
+
 ghost use Rattle.std.specs.Prelude.{◌≡◌, ◌+◌, ◌≤◌, length, replicate};
+ghost use Rattle.std.specs.Io.{ReadsAtMost};
 ghost use Rattle.table_file.specs.File.{most_file_bytes};
-ghost use Rattle.reads.specs.Reads.{below0};
+ghost use Rattle.reads.specs.Reads.{IsPrefixLen, clamp_len, answer_of, below0};
 ghost use Rattle.reads.specs.Files.{file_end, size_of, fault_check, check_of};
 
 use line::Saying;
 use refusal::{Refusal, is_nothing};
+use std::io;
 use table_file::{MOST_WORDS, file_fault};
 
 // One byte more than the longest table file has, so that a longer one is seen.
 pub const MOST_FILE: usize = 4 * MOST_WORDS + 1;
 
 // What came of reading a file: so many bytes, or an error.
-#[derive(Drop)]
+#[derive(Clone, Copy)]
 pub enum Loaded {
     Bytes(usize),
     Failed,
 }
 
 // What came of a table file.
-#[derive(Drop)]
+#[derive(Clone, Copy)]
 pub enum TableCheck {
     // It has so many bytes, and nothing is wrong with it.
     Sound(usize),
@@ -27,7 +32,30 @@ pub enum TableCheck {
     Unusable(Saying),
 }
 
-// Whether a call of C's failed.
+// What a read into a buffer answered, as a number.
+pub fn answer(got: io::Result<usize>, buf: &[u8]) -> isize
+    requires { ReadsAtMost got buf.now }
+    ensures { result ≡ answer_of got }
+{
+    match got {
+        Ok(n) => n as isize,
+        Err(_) => -1,
+    }
+}
+
+// How many of a buffer's bytes a read gave, by its answer.
+pub fn count(got: isize, buf: &[u8]) -> usize
+    ensures in_bounds { IsPrefixLen result buf.now }
+    ensures value { result ≡ clamp_len got (length buf.now) }
+{
+    if got <= 0 {
+        return 0;
+    }
+    let n = got as usize;
+    if n < buf.len() { n } else { buf.len() }
+}
+
+// Whether a read failed.
 pub fn is_error(got: isize) -> bool
     ensures { result ≡ below0 got }
 {

@@ -1,8 +1,10 @@
 // What a call can refuse, one case for each number of the paper's table and of the requests that amend it.
+#![tactic(auto)]
+
 ghost use Rattle.std.specs.Prelude.{◌≡◌};
 ghost use Rattle.refusal.specs.Refusal.{number_of, place_of, is_nothing};
 
-#[derive(Drop)]
+#[derive(Clone, Copy)]
 pub enum Refusal {
     Nothing,
     // 1: the hasher is not well formed.

@@ -12,7 +12,7 @@ use step::{regs_of, same_regs};
 use table_file::{MOST_WORDS, file_words};
 
 // Words read from a field. What can't be read has none, and is not good.
-#[derive(Drop)]
+#[derive(Clone, Copy)]
 pub struct Words {
     pub good: bool,
     pub len: usize,

@@ -13,7 +13,7 @@ pub const RUN_BYTES: usize = 4 * MOST_WORDS;
 pub const NO_NUMBER: usize = 256;
 
 // Bytes read from a field. What can't be read has none, and is not good.
-#[derive(Drop)]
+#[derive(Clone, Copy)]
 pub struct Run {
     pub good: bool,
     pub len: usize,

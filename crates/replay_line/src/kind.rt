@@ -4,7 +4,7 @@ ghost use Rattle.replay_line.specs.Kinds.{named, is_refused, given_fields, answe
 
 use cases::spaces;
 
-#[derive(Drop)]
+#[derive(Clone, Copy)]
 pub enum Kind {
     Comment,
     Table,

@@ -1,4 +1,6 @@
 // The lines of the replay list, read: what a line is, and its fields as bytes, words and numbers, all in hex.
+#![tactic(auto)]
+
 mod fields;
 mod hex;
 mod kind;

@@ -1,15 +1,17 @@
 // How many lines of each kind agreed, and which did not.
-ghost use Rattle.std.specs.Prelude.{◌≡◌, ◌+◌, ◌%◌, ◌^◌, ◌<◌, length, replicate};
+ghost use Rattle.std.specs.Prelude.{IfOk, ◌≡◌, ◌+◌, ◌%◌, ◌^◌, ◌<◌, length, replicate};
 ghost use Rattle.word.specs.Choice.{pick};
 ghost use Rattle.replay_run.specs.Counts.{kind_place, count_place, last_place, more_at};
 
 use printing::{say, say_decimal};
 use replay_line::{Kind, is_refused};
+use std::io;
+use std::io::Write;
 
 // A count for each kind, and one for refusals of every kind. What differs counts as what can't be read, which has the last place.
 const KINDS: usize = 11;
 
-#[derive(Drop)]
+#[derive(Clone, Copy)]
 pub struct Counts {
     pub of: [u64; KINDS],
 }
@@ -73,26 +75,33 @@ fn with_more(c: Counts, place: usize) -> Counts
 }
 
 // The counts with line n, which differs; it is named where not too many were.
-fn differed(c: Counts, n: u64) -> Counts
-    ensures { result.of ≡ more_at c.of last_place }
+fn differed<W: Write>(out: &mut W, c: Counts, n: u64) -> io::Result<Counts>
+    ensures { IfOk result (λ r. r.of ≡ more_at c.of last_place) }
 {
     let of = c.of;
     if of[LAST] < NAMED {
-        say(b"line ");
-        say_decimal(n);
-        say(b" differs\n");
+        say(out, b"line ")?;
+        say_decimal(out, n)?;
+        say(out, b" differs\n")?;
     }
-    with_more(c, LAST)
+    Ok(with_more(c, LAST))
 }
 
 // The counts with line n.
-pub(crate) fn counted(c: Counts, n: u64, k: Kind, line: &[u8], right: bool) -> Counts
-    ensures { result.of ≡ more_at c.of (pick right (count_place k line.now) last_place) }
+pub(crate) fn counted<W: Write>(
+    out: &mut W,
+    c: Counts,
+    n: u64,
+    k: Kind,
+    line: &[u8],
+    right: bool,
+) -> io::Result<Counts>
+    ensures { IfOk result (λ r. r.of ≡ more_at c.of (pick right (count_place k line.now) last_place)) }
 {
     if right {
-        return with_more(c, count_place(k, line));
+        return Ok(with_more(c, count_place(k, line)));
     }
-    differed(c, n)
+    differed(out, c, n)
 }
 
 // The name of each place, 12 bytes long.
@@ -102,14 +111,15 @@ fn names() -> [u8; 132]
     *b"comments    tables      blocks      hashers     updates     finishes    closings    one-shots   resets      refusals    differences "
 }
 
-pub(crate) fn say_counts(c: Counts) {
+pub(crate) fn say_counts<W: Write>(out: &mut W, c: Counts) -> io::Result<()> {
     let of = c.of;
     let text = names();
     for i in 0..KINDS {
         let at = 12 * i;
         let end = at + 12;
-        say(&text[at..end]);
-        say_decimal(of[i]);
-        say(b"\n");
+        say(out, &text[at..end])?;
+        say_decimal(out, of[i])?;
+        say(out, b"\n")?;
     }
+    Ok(())
 }

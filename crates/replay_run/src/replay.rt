@@ -15,6 +15,8 @@ use refusal::is_nothing;
 use replay_line::{
     Kind, Words, hex_words, is_refusal, is_refused, line_kind, no_words, words_front,
 };
+use std::io;
+use std::io::Write;
 use table::table_fault;
 
 // The table lent after a line.
@@ -74,7 +76,7 @@ fn took(k: Kind, h: Hasher, line: &[u8], table: &[u32]) -> Took {
 }
 
 // How many lines of each kind agree.
-pub(crate) fn replay(text: &[u8]) -> Counts {
+pub(crate) fn replay<W: Write>(out: &mut W, text: &[u8]) -> io::Result<Counts> {
     let mut counts = none();
     let mut n = 0;
     let mut h = Hasher::new(Flags::new());
@@ -88,8 +90,8 @@ pub(crate) fn replay(text: &[u8]) -> Counts {
         let t = took(k, h, line, words_front(&words, lent.len));
         h = t.hasher;
         n = more(n);
-        counts = counted(counts, n, k, line, t.right);
+        counts = counted(out, counts, n, k, line, t.right)?;
         at = next_line(text, at);
     }
-    counts
+    Ok(counts)
 }

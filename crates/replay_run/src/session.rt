@@ -17,7 +17,7 @@ use replay_line::{
 use update::update;
 use verdict::Verdict;
 
-#[derive(Drop)]
+#[derive(Clone, Copy)]
 pub struct Took {
     pub right: bool,
     pub hasher: Hasher,

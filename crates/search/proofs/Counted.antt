@@ -1,12 +1,11 @@
 -- How many places are counted: of places with numbers that are all different, no more have a number of some kind than there are such numbers
 -- below the width. Assumes nothing.
 use mathlib.Core.Path.{◌≡◌, refl, sym, ap, ◌∙◌}
-use mathlib.Core.Bool.{Bool, true, false, ◌&&◌, ◌||◌, and-false, and-true}
+use mathlib.Core.Bool.{Bool, true, false, ◌&&◌, and-false, and-true}
 use mathlib.Core.Logic.{⊎_elim}
 use Prim.Native.Nat.{ℕ, zero, suc, ◌+◌, ◌≤◌, ◌<◌}
-use native.Mathlib.Nat.{eq-or-lt_of_le, zero-add, add-zero}
+use native.Mathlib.Nat.{eq-or-lt_of_le, add-zero}
 use native.Mathlib.Omega.{arith}
-use lib.Dec.{eqb}
 use borrow.Author.Tests.{eq-eqb, ne_eqb}
 use Rattle.word.specs.Choice.{pick}
 use Rattle.word.proofs.Tests.{unless-true, both_true}

@@ -1,5 +1,7 @@
 // The search for a vector that marks a block: those that the mask selects are tried in table order, and the first that marks it
 // ends the search.
+#![tactic(auto)]
+
 ghost use Rattle.std.specs.Prelude.{◌≡◌, ◌+◌, ◌*◌, ◌≤◌, length};
 ghost use Rattle.block.specs.Compress.{states_of};
 ghost use Rattle.sibling.specs.Sibling.{recompressed};
@@ -14,7 +16,7 @@ use step::{Regs, same_regs};
 use table::{MASK_BITS, RECORD_WORDS, Testt, test_step};
 
 // What a search found.
-#[derive(Drop)]
+#[derive(Clone, Copy)]
 pub struct Found {
     pub mark: bool,
     // The marking record's place, 0 without a mark.

@@ -1,5 +1,7 @@
 // The barcode sheet: looking a digest up by its barcode. A record is 32 bytes, a barcode and then a digest, and a sheet
 // has no header.
+#![tactic(auto)]
+
 ghost use Rattle.std.specs.Prelude.{◌≡◌};
 ghost use Rattle.sheet.specs.Sheet.{record_for, lookup_refusal, part_from, part_of, place_in};
 

@@ -1,11 +1,13 @@
 // The sibling of a block: its schedule, and its compression worked out from a state inside.
+#![tactic(auto)]
+
 ghost use Rattle.std.specs.Prelude.{◌≡◌, length};
 ghost use Rattle.sibling.specs.Sibling.{sibling_schedule, recompressed};
 
 use step::{Regs, add_regs, steps, undos};
 
 // Where a compression started and where it ended.
-#[derive(Drop)]
+#[derive(Clone, Copy)]
 pub struct Ends {
     pub start: Regs,
     pub out: Regs,

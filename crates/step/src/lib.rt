@@ -1,11 +1,13 @@
 // One step of SHA-1, forward and back, and runs of steps over a schedule.
+#![tactic(auto)]
+
 ghost use Rattle.std.specs.Prelude.{◌≡◌, ◌-◌, ◌≤◌};
 ghost use Rattle.step.specs.Step.{step_with, undo_with, step_at, undo_at, steps_of, undos_of, regs_of, five_of, add_regs, same_regs};
 
 use word::{add, f1, f2, f3, f4, rotate_left, sub};
 
 // The five working words, in the order of FIPS 180-4.
-#[derive(Drop)]
+#[derive(Clone, Copy)]
 pub struct Regs {
     pub a: u32,
     pub b: u32,

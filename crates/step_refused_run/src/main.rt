@@ -1,4 +1,8 @@
 // Runs the program with a table whose second record has test step 64.
-fn main() {
-    program_io::run();
+#![tactic(auto)]
+
+use std::io;
+
+fn main(rt: HostRuntime) -> io::Result<()> {
+    program_io::run(&rt)
 }

@@ -1,6 +1,6 @@
 -- A mark fits where it was first made, and goes on to after one block more. Assumes nothing.
 use mathlib.Core.Path.{◌≡◌, refl, ap₂}
-use mathlib.Core.Bool.{Bool, true, false, ◌&&◌, ◌||◌, false≢true}
+use mathlib.Core.Bool.{Bool, true, false, ◌||◌, false≢true}
 use mathlib.Core.List.{List}
 use Prim.Native.Nat.{ℕ, ◌+◌, ◌≤◌, ◌<◌}
 use native.Mathlib.Omega.{arith}
@@ -9,7 +9,6 @@ use lib.Dec.{eqb, ltb}
 use lib.ListN.{length}
 use Rattle.word.specs.Choice.{pick}
 use Rattle.word.proofs.Tests.{both_true}
-use Rattle.step.specs.declared.Regs.{Regs}
 use Rattle.table.specs.Limits.{most_records}
 use Rattle.table.specs.Table.{records_in}
 use Rattle.search.specs.declared.Found.{Found}

@@ -1,4 +1,6 @@
 // The blocks of a stream, one after the other, with detection as the flags say.
+#![tactic(auto)]
+
 ghost use Rattle.std.specs.Prelude.{◌≡◌, ◌+◌, ◌/◌, ◌^◌, ◌<◌, length, get_or};
 ghost use Rattle.conditions.specs.Good.{GoodConditions};
 ghost use Rattle.loan.specs.Loan.{loan_of, conditions_for};
@@ -12,14 +14,14 @@ use search::Found;
 use step::Regs;
 
 // Which block was the first to be marked, from 0, and the place of the vector that marked it; zeros where none was.
-#[derive(Drop)]
+#[derive(Clone, Copy)]
 pub struct FirstMark {
     pub block: u64,
     pub place: usize,
 }
 
 // What stands between two blocks: the chaining words, whether a block was marked and which one first, and how many blocks there were.
-#[derive(Drop)]
+#[derive(Clone, Copy)]
 pub struct Chain {
     pub words: Regs,
     pub mark: bool,

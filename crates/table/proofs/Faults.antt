@@ -1,5 +1,5 @@
 -- What is wrong with a table: its length, else its first bad record, else the first that repeats. Assumes nothing.
-use mathlib.Core.Path.{◌≡◌, refl, sym, ap, ◌∙◌}
+use mathlib.Core.Path.{◌≡◌, refl, ap, ◌∙◌}
 use mathlib.Core.Logic.{◌⊎◌, ⊎_elim, ⊎_map, ◌↔◌}
 use mathlib.Core.Bool.{true, false, not}
 use mathlib.Core.List.{List, ◌∷◌}
@@ -11,7 +11,7 @@ use borrow.Author.Tests.{ltb-true, leb-true, eqb-true, ltb-false, leb-false, eqb
 use Rattle.refusal.specs.Refusal.{number_of, is_nothing, table_numbers, one_of}
 use Rattle.refusal.specs.declared.Refusal.{Refusal}
 use Rattle.refusal.specs.declared.Refusal.TheVariants.{Nothing, TableLength, MaskNumber, TestStep, DmRule, MaskRepeated}
-use Rattle.refusal.proofs.First.{of-first, NoneBelow, FirstBelow, none-or-first, first-is, none_is, is_none}
+use Rattle.refusal.proofs.First.{of-first, NoneBelow, none-or-first, first-is, none_is, is_none}
 use Rattle.table.specs.Limits.{record_words, most_records}
 use Rattle.table.specs.Table.{records_in, record_fault, repeat_fault, first_bad, first_repeat, whole_records, table_fault}
 use Rattle.table.specs.Good.{BadLength, GoodBelow, Repeats, DifferentBelow}

@@ -1,5 +1,7 @@
 // The check of a lent table of vectors. A record is 82 words: the mask number, the test step, and the 80 words by
 // which a sibling's schedule differs.
+#![tactic(auto)]
+
 ghost use Rattle.std.specs.Prelude.{◌≡◌, ◌||◌, ◌+◌, ◌*◌, ◌≤◌, eqb, length};
 ghost use Rattle.table.specs.Limits.{dm_words, record_words};
 ghost use Rattle.table.specs.Table.{testt_of, records_in, obeys, record_fault, first_bad, first_repeat, whole_records, table_fault};
@@ -18,7 +20,7 @@ pub const MOST_RECORDS: usize = 32;
 pub const MASK_BITS: u32 = 32;
 
 // The step at which a sibling is compared with the block.
-#[derive(Drop)]
+#[derive(Clone, Copy)]
 pub enum Testt {
     T58,
     T65,

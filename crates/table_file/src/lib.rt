@@ -1,4 +1,6 @@
 // A table file: its bytes as the words of a table, and its check.
+#![tactic(auto)]
+
 ghost use Rattle.std.specs.Prelude.{◌≡◌, ◌<◌, get_or};
 ghost use Rattle.octets.specs.Octets.{be32_at};
 ghost use Rattle.table_file.specs.File.{most_words, file_words, whole_words, file_fault};

@@ -1,4 +1,6 @@
 // An update: what it refuses of a piece of the message, and the piece taken.
+#![tactic(auto)]
+
 ghost use Rattle.std.specs.Prelude.{◌≡◌};
 ghost use Rattle.loan.specs.Loan.{loan_of};
 ghost use Rattle.update.specs.Update.{update_refusal, updated};

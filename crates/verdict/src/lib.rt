@@ -1,11 +1,13 @@
 // The three verdicts on a message.
+#![tactic(auto)]
+
 ghost use Rattle.std.specs.Prelude.{◌≡◌};
 ghost use Rattle.verdict.specs.Verdict.{verdict_of};
 
 // Bytes in a digest, which stands beside a verdict.
 pub const DIGEST_SIZE: usize = 20;
 
-#[derive(Drop)]
+#[derive(Clone, Copy)]
 pub enum Verdict {
     // No block was marked.
     Ok,

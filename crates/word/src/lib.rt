@@ -1,4 +1,6 @@
 // Words of 32 bits: rotation, wrapping sums and differences, the round functions and the rule of a schedule.
+#![tactic(auto)]
+
 ghost use Rattle.std.specs.Prelude.{◌≡◌, ◌<◌};
 ghost use Rattle.word.specs.Word.{rotl, ◌⊞◌, ◌⊟◌, ch, parity, maj};
 ghost use Rattle.word.specs.Rule.{rule};
@@ -34,7 +36,7 @@ pub fn f1(b: u32, c: u32, d: u32) -> u32
     d ^ (b & (c ^ d))
 }
 
-// parity, of steps 20 to 39.
+// Parity, of steps 20 to 39.
 pub fn f2(b: u32, c: u32, d: u32) -> u32
     ensures { result ≡ parity b c d }
 {
@@ -48,7 +50,7 @@ pub fn f3(b: u32, c: u32, d: u32) -> u32
     (b & c) | (d & (b | c))
 }
 
-// parity again, of steps 60 to 79.
+// Parity again, of steps 60 to 79.
 pub fn f4(b: u32, c: u32, d: u32) -> u32
     ensures { result ≡ parity b c d }
 {

@@ -1,0 +1,47 @@
+-- `bench::lane_reset` meets its contract. Assumes nothing.
+use Rattle.std.proofs.Common.{◌≡◌, ◌∙◌, sym, ap, true, false, length, arith, set}
+use Rattle.refusal.specs.declared.Refusal.TheVariants.{NoLane}
+use Rattle.hasher.specs.Hasher.{reset_of}
+use Rattle.hasher.specs.declared.Hasher.{Hasher}
+use Rattle.hasher.specs.declared.Updated.{Updated}
+use Rattle.lane.specs.Lane.{has_lane}
+use Rattle.bench.proofs.OnBench.{taken_there, off-lane, within_of, few_of}
+use Rattle.bench.proofs.lane_reset.Goals as goal
+
+pub offset_bounds-bench-lane : goal.offset_bounds-bench-lane
+offset_bounds-bench-lane c =
+    let h : has_lane (length c.args.bench.now) c.args.lane ≡ true = sym c.has_lane.ensures ∙ c.if-has_lane.true in
+    omega (arith, within_of _ _ h, few_of _ _ h)
+
+pub slice_copy_out-reset : goal.slice_copy_out-reset
+slice_copy_out-reset c =
+    let h : has_lane (length c.args.bench.now) c.args.lane ≡ true = sym c.has_lane.ensures ∙ c.if-has_lane.true in
+    omega (arith, within_of _ _ h)
+
+pub offset_bounds-bench-lane-then-has_lane : goal.offset_bounds-bench-lane-then-has_lane
+offset_bounds-bench-lane-then-has_lane c =
+    let h : has_lane (length c.args.bench.now) c.args.lane ≡ true = sym c.has_lane.ensures ∙ c.if-has_lane.true in
+    omega (arith, within_of _ _ h, few_of _ _ h)
+
+pub bounds-bench-lane : goal.bounds-bench-lane
+bounds-bench-lane c =
+    let h : has_lane (length c.args.bench.now) c.args.lane ≡ true = sym c.has_lane.ensures ∙ c.if-has_lane.true in
+    omega (arith, within_of _ _ h)
+
+pub returns-then-has_lane : goal.returns-then-has_lane
+returns-then-has_lane c =
+    let h : has_lane (length c.args.bench.now) c.args.lane ≡ true = sym c.has_lane.ensures ∙ c.if-has_lane.true in
+    let ys = c.args.bench.now in
+    let lane = c.args.lane in (
+      ap (λ (r : Updated). set ys lane r.hasher) c.reset-r.ensures ∙ taken_there ys lane _ (λ (x : Hasher). set ys lane (reset_of x).hasher) ys h,
+      ap (λ (r : Updated). r.refusal) c.reset-r.ensures ∙ taken_there ys lane _ (λ (x : Hasher). (reset_of x).refusal) NoLane h,
+    )
+
+pub returns-else-has_lane : goal.returns-else-has_lane
+returns-else-has_lane c =
+    let h : has_lane (length c.args.bench.now) c.args.lane ≡ false = sym c.has_lane.ensures ∙ c.if-has_lane.false in
+    let ys = c.args.bench.now in
+    let lane = c.args.lane in (
+      sym (off-lane ys lane (λ (x : Hasher). set ys lane (reset_of x).hasher) ys h),
+      sym (off-lane ys lane (λ (x : Hasher). (reset_of x).refusal) NoLane h),
+    )

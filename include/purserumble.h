@@ -1,4 +1,4 @@
-/* SHA-1 with collision detection: the calls of the static library that `rt staticlib export` makes, for C and C++.
+/* SHA-1 with collision detection: the calls of the static library that `tools/build export` makes, for C and C++.
  *
  * Null pointers: the calls over slices, in the middle, take none, not even with length 0. The functions over structs, at
  * the end, do: a message, table, conditions, masks, sheet or barcode that is null with length 0 is empty, and no loan is an

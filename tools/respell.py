@@ -4,7 +4,7 @@
 usage: tools/respell.py [--list]     at the top of the repository, once, after the kit's port.py
 
 It goes by words. A word is one of ours if some file of specs/ or proofs/ has it outside comments and outside imports from a library. Functions
-of src/, strings, inputs and outputs have no such word. It stops where two words of one file would fall together.
+of src/, strings, inputs and outputs have no such word. It names the words of one file that would fall together.
 """
 
 import pathlib

@@ -1,66 +1,43 @@
-"""What `lanes` and `small` share: a loop around the crates' calls compiled, and the CPU time of a process.
+"""What `lanes` and `small` share: a loop around the crates' calls built, and the CPU time of a process.
 
-A source here is compiled by the kit's `rattle-cases`, as `rt try` does (optimised, nothing proved; the calls that it makes are the proved
-crates' own text), with a linker in front of the kit's that keeps the program.
+A source here is the one file of a program's crate. It is put beside copies of the crates that it stands on, in a folder outside the repository (where
+no check would read it), and `rt run` proves and builds it there.
 """
-import os
 import pathlib
 import resource
 import shutil
-import stat
 import subprocess
 import sys
+import tempfile
 
 here = pathlib.Path(__file__).resolve().parent
 root = here.parent.parent
 out = root / "compare/build/speed"
-kit = pathlib.Path(shutil.which("rt")).resolve().parent.parent
-machine = kit / "on" / os.uname().machine
 
 
-def keeping_tools():
-    """The kit's compiler and linker, the linker with a wrapper that keeps a copy of what it links."""
-    tools = out / "tools"
-    shutil.rmtree(tools, ignore_errors=True)
-    (tools / "bin").mkdir(parents=True)
-    (tools / "lib").symlink_to(machine / "toolchain/lib")
-    for f in (machine / "toolchain/bin").iterdir():
-        if f.name != "ld.lld":
-            (tools / "bin" / f.name).symlink_to(f)
-    keep = tools / "bin/ld.lld"
-    keep.write_text(f"""#!/bin/sh
-{machine}/toolchain/bin/ld.lld "$@" || exit $?
-while [ $# -gt 1 ]; do [ "$1" != -o ] || cp "$2" "{out}/linked-$(ls {out} | grep -c ^linked-)"; shift; done
-""")
-    keep.chmod(keep.stat().st_mode | stat.S_IXUSR | stat.S_IXGRP | stat.S_IXOTH)
-    for f in out.glob("linked-*"):
-        f.unlink()
-    return tools
-
-
-def build(name, source_name, uses, start, without=None):
-    """A program made of a source here, which calls the crates `uses`, less the lines that end in `without`; `start` is what it reads when it is
-    first run."""
+def build(name, source_name, uses, without=None):
+    """A program made of a source here, which calls the crates `uses`, less the lines that end in `without`."""
     out.mkdir(parents=True, exist_ok=True)
-    tools = keeping_tools()
     lines = dict(line.split(":", 1) for line in (root / "crates.txt").read_text().split("\n") if ":" in line and not line.startswith("#"))
     needed = sorted(set(uses).union(*(lines[n].split() for n in uses)))
-    libs = ["--lib", f"std={kit}/libs/std/src/lib.rt"]
-    for n in needed:
-        place = root / "crates" / n if n in lines else kit / "libs" / n
-        libs += ["--lib", f"{n}={place}/src/lib.rt"]
-    source = root / f"target/{name}/{name}.rt"
-    source.parent.mkdir(parents=True, exist_ok=True)
-    lines_of = (here / f"{source_name}.source").read_text().split("\n")
-    source.write_text("\n".join(line for line in lines_of if not (without and line.endswith(without))))
-    given = out / "start"
-    given.write_bytes(start)
-    made = subprocess.run([machine / "bin/rattle-cases", "--toolchain", tools, "--stdin", given, source, "--crate-name", name, *libs], capture_output=True, text=True)
-    # The link after that at -O0 is the one at -O3.
-    linked = sorted(out.glob("linked-*"))
-    if len(linked) < 2:
-        sys.exit(made.stdout + made.stderr)
-    return linked[1].rename(out / name)
+    with tempfile.TemporaryDirectory() as room:
+        room = pathlib.Path(room)
+        for n in needed:
+            for part in ("src", "specs", "proofs"):
+                if (root / "crates" / n / part).exists():
+                    shutil.copytree(root / "crates" / n / part, room / "crates" / n / part)
+        own = [f"{n}:{lines[n]}\n" for n in needed if n in lines]
+        (room / "crates.txt").write_text("".join(own) + f"{name}: {' '.join(needed)}\n")
+        program = room / "crates" / name
+        (program / "src").mkdir(parents=True)
+        source = (here / f"{source_name}.source").read_text().split("\n")
+        (program / "src/main.rt").write_text("\n".join(line for line in source if not (without and line.endswith(without))))
+        # It is run too, with nothing to read, and ends at once.
+        made = subprocess.run(["rt", "run"], cwd=program, stdin=subprocess.DEVNULL, stdout=subprocess.DEVNULL, stderr=subprocess.PIPE, text=True)
+        if not (program / "out" / name).exists():
+            sys.exit(made.stderr)
+        shutil.copy(program / "out" / name, out / name)
+    return out / name
 
 
 def seconds(program, request):

@@ -29,6 +29,10 @@ pub few_of : (count lane : ℕ) → has_lane count lane ≡ true → count ≤ m
 unfolding has_lane
 few_of count lane h = leb-true _ _ (both_true (leb count most_lanes) (ltb lane count) (both_true (leb 1 count) (leb count most_lanes && ltb lane count) h).1).0
 
+-- where the test of a lane said yes, the lane is not past the end, and its place is no overflow: what an index asks
+pub seated : (result : Bool) (count lane : ℕ) → result ≡ has_lane count lane → result ≡ true → (lane < count) × (count ≤ most_lanes)
+seated result count lane said is = (within_of count lane (sym said ∙ is), few_of count lane (sym said ∙ is))
+
 -- what is made of the hasher that is read there, whatever stands for one past the end
 pub taken_there : {A : Type 0} (ys : List Hasher) (lane : ℕ) (d : Hasher) (make : Hasher → A) (other : A) → has_lane (length ys) lane ≡ true → make (get_or ys lane d) ≡ on_lane ys lane make other
 taken_there {A} ys lane d make other good =

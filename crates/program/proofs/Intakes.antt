@@ -18,7 +18,8 @@ use Rattle.update.specs.Update.{updated}
 use Rattle.hasher.specs.declared.Hasher.{Hasher}
 use Rattle.update.proofs.Taken.{update-taken, taken-update}
 use Rattle.update.proofs.Absorbed.{pending-after, taken-after}
-use Rattle.reads.specs.Reads.{Moved, clamp_len, Read, size_read, bytes_read, gave_none, Possible}
+use Rattle.std.specs.Counts.{clamp_len}
+use Rattle.reads.specs.Reads.{Moved, Read, size_read, bytes_read, gave_none, Possible}
 use Rattle.program.specs.Intakes.{no_intake, message_end, intake_by, intake_with, intake_of}
 use Rattle.program.specs.declared.Intake.{Intake}
 

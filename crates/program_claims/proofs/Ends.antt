@@ -16,7 +16,8 @@ use Rattle.update.specs.Update.{updated}
 use Rattle.hasher.specs.declared.Hasher.{Hasher}
 use Rattle.claims.specs.Pieces.{Piece, piecewise}
 use Rattle.claims.proofs.Piecewise.{piecewise-nil, piecewise-cons}
-use Rattle.reads.specs.Reads.{Moved, clamp_len, Read, below0, bytes_read, gave_none, Possible}
+use Rattle.std.specs.Counts.{clamp_len}
+use Rattle.reads.specs.Reads.{Moved, Read, below0, bytes_read, gave_none, Possible}
 use Rattle.program.specs.Intakes.{message_end, intake_by, intake_of}
 use Rattle.program_claims.specs.Ends.{calls, AllGave, Ends, Passed}
 use Rattle.program.proofs.Intakes.{with-end, with-bytes, intake-nil, intake-cons}

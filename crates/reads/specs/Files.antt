@@ -11,7 +11,7 @@ use Rattle.reads.specs.declared.Loaded.TheVariants.{Bytes, Failed}
 use Rattle.reads.specs.declared.TableCheck.{TableCheck}
 use Rattle.reads.specs.declared.TableCheck.TheVariants.{Sound, Unusable}
 
--- what opening a file answered, and what its reads did
+-- what opening a file answered, below 0 where it could not be opened, and what its reads did
 pub record File : Type 0 where
   pub fd : ℤ
   pub reads : List Read

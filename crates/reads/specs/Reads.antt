@@ -1,5 +1,6 @@
 -- What a read gives. No contract can say which bytes come, so all is said of what the reads answered.
-use Rattle.std.specs.Prelude.{◌≡◌, Bool, true, false, List, [], ◌∷◌, ℕ, ◌≤◌, eqb, min, length, take, ℤ, pos, negsuc, Result, Ok, Err}
+use Rattle.std.specs.Prelude.{◌≡◌, Bool, true, false, List, [], ◌∷◌, ℕ, ◌≤◌, eqb, length, take, ℤ, pos, negsuc, Result, Ok, Err}
+use Rattle.std.specs.Counts.{clamp_len}
 
 -- what a read answered, as a number: how many bytes it gave, or -1 for an error
 abbrev pub answer_of : {E : Type 0} → Result ℕ E → ℤ
@@ -11,15 +12,6 @@ abbrev pub Moved : ℕ → ℤ → Type 0
 Moved n (pos k) = k ≤ n
 Moved n (negsuc k) = k ≡ 0
 
--- an answer brought into 0 to `most`
-abbrev pub clamp_len : ℤ → ℕ → ℕ
-clamp_len (pos k) most = min k most
-clamp_len (negsuc k) most = 0
-
--- n bytes can be taken from the start of a buffer
-abbrev pub IsPrefixLen : ℕ → List ℕ → Type 0
-IsPrefixLen n xs = (n ≤ length xs) × (n ≡ length (take n xs))
-
 -- what a read answered, and the buffer after it
 pub record Read : Type 0 where
   pub got : ℤ
@@ -29,7 +21,7 @@ pub record Read : Type 0 where
 abbrev pub read_of : ℤ → List ℕ → Read
 read_of got buffer = record { got = got; buffer = buffer }
 
--- whether a call of C's failed, by its answer
+-- whether a read failed, or a file was not opened, by what was answered
 abbrev pub below0 : ℤ → Bool
 below0 (pos k) = false
 below0 (negsuc k) = true

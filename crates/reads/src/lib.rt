@@ -3,9 +3,10 @@
 #![tactic(auto)]
 
 ghost use Rattle.std.specs.Prelude.{◌≡◌, ◌+◌, ◌≤◌, length, replicate};
+ghost use Rattle.std.specs.Counts.{IsPrefixLen, clamp_len};
 ghost use Rattle.std.specs.Io.{ReadsAtMost};
 ghost use Rattle.table_file.specs.File.{most_file_bytes};
-ghost use Rattle.reads.specs.Reads.{IsPrefixLen, clamp_len, answer_of, below0};
+ghost use Rattle.reads.specs.Reads.{answer_of, below0};
 ghost use Rattle.reads.specs.Files.{file_end, size_of, fault_check, check_of};
 
 use line::Saying;

@@ -6,28 +6,20 @@ use Rattle.hasher.specs.declared.Hasher.{Hasher}
 use Rattle.hasher.specs.declared.Updated.{Updated}
 use Rattle.update.specs.Update.{updated}
 use Rattle.lane.specs.Lane.{has_lane}
-use Rattle.bench.proofs.OnBench.{taken_there, off-lane, within_of, few_of}
+use Rattle.bench.proofs.OnBench.{taken_there, off-lane, seated}
 use Rattle.bench.proofs.lane_update.Goals as goal
 
 pub offset_bounds-bench-lane : goal.offset_bounds-bench-lane
-offset_bounds-bench-lane c =
-    let h : has_lane (length c.args.bench.now) c.args.lane ≡ true = sym c.has_lane.ensures ∙ c.if-has_lane.true in
-    omega (arith, within_of _ _ h, few_of _ _ h)
+offset_bounds-bench-lane c = let s = seated _ _ _ c.has_lane.ensures c.if-has_lane.true in omega arith
 
 pub slice_copy_out-update : goal.slice_copy_out-update
-slice_copy_out-update c =
-    let h : has_lane (length c.args.bench.now) c.args.lane ≡ true = sym c.has_lane.ensures ∙ c.if-has_lane.true in
-    omega (arith, within_of _ _ h)
+slice_copy_out-update c = let s = seated _ _ _ c.has_lane.ensures c.if-has_lane.true in omega arith
 
 pub offset_bounds-bench-lane-then-has_lane : goal.offset_bounds-bench-lane-then-has_lane
-offset_bounds-bench-lane-then-has_lane c =
-    let h : has_lane (length c.args.bench.now) c.args.lane ≡ true = sym c.has_lane.ensures ∙ c.if-has_lane.true in
-    omega (arith, within_of _ _ h, few_of _ _ h)
+offset_bounds-bench-lane-then-has_lane c = let s = seated _ _ _ c.has_lane.ensures c.if-has_lane.true in omega arith
 
 pub bounds-bench-lane : goal.bounds-bench-lane
-bounds-bench-lane c =
-    let h : has_lane (length c.args.bench.now) c.args.lane ≡ true = sym c.has_lane.ensures ∙ c.if-has_lane.true in
-    omega (arith, within_of _ _ h)
+bounds-bench-lane c = let s = seated _ _ _ c.has_lane.ensures c.if-has_lane.true in omega arith
 
 pub returns-then-has_lane : goal.returns-then-has_lane
 returns-then-has_lane c =

@@ -8,7 +8,8 @@ use mir.Val.{SFits, to_z, of_z}
 use mir.ValLaws.{to_z-of_z}
 use borrow.Author.Tests.{eq-eqb, ne_eqb}
 use lib.ListN.{length}
-use Rattle.reads.specs.Reads.{clamp_len, read_of}
+use Rattle.std.specs.Counts.{clamp_len}
+use Rattle.reads.specs.Reads.{read_of}
 use Rattle.program.proofs.Intakes.{with-end, with-bytes}
 use Rattle.program.proofs.intake_with.Goals as goal
 

@@ -1,4 +1,4 @@
--- What the bytes of an update make of a hasher. 01, "The hasher".
+-- What the bytes of an update make of a hasher.
 use Rattle.std.specs.Prelude.{List, ◌++◌, ℕ, ◌*◌, ◌/◌, length, take, drop}
 use Rattle.flags.specs.declared.Flags.{Flags}
 use Rattle.loan.specs.Loan.{Loan}

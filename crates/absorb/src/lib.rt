@@ -3,62 +3,62 @@
 
 ghost use Rattle.std.specs.Prelude.{◌≡◌, ◌+◌, ◌/◌, ◌^◌, ◌<◌, length};
 ghost use Rattle.conditions.specs.Good.{GoodConditions};
-ghost use Rattle.loan.specs.Loan.{loan_of, conditions_for};
+ghost use Rattle.loan.specs.Loan.{loan_in, conditions_for};
 ghost use Rattle.absorb.specs.Absorb.{advanced, absorbed};
 ghost use Rattle.absorb.specs.Ready.{Ready};
 
 use flags::Flags;
 use hasher::Hasher;
-use loan::masks_from;
-use octets::store;
-use stream::{Chain, fold_blocks};
+use loan::Lent;
+use stream::{Chain, FirstMark, fold_blocks};
 
 // The whole blocks of s compressed straight from it, from the chain c on, and the rest left pending.
-fn advance(
-    flags: Flags,
-    table: &[u32],
-    conditions: &[u32],
-    c: Chain,
-    s: &[u8],
-    masks: &[u32],
-) -> Hasher
+#[tactic(auto, unfolding(crate::specs::Absorb::advanced))]
+fn advance(flags: Flags, c: Chain, s: &[u8], lent: Lent<'_>) -> Hasher
     requires s_bound { c.blocks + length s.now / 64 < 2 ^ 64 }
-    requires good_conditions { GoodConditions (conditions_for flags conditions.now) }
-    ensures { result ≡ advanced flags (loan_of table.now conditions.now masks.now) c s.now }
+    requires good_conditions { GoodConditions (conditions_for flags lent.conditions.now) }
+    ensures { result ≡ advanced flags (loan_in lent.entry) c s.now }
 {
-    let e = fold_blocks(flags, table, conditions, c, s, masks);
-    let at = 64 * (s.len() / 64);
-    let left = s.len() - at;
+    let e = fold_blocks(flags, c, s, lent);
+    let rest = &s[64 * (s.len() / 64)..];
     let mut pending = [0u8; 64];
-    store(&mut pending, 0, &s[at..], left);
-    Hasher::at(flags, e, pending, left)
+    pending[..rest.len()].copy_from_slice(rest);
+    Hasher::at(flags, e, pending, rest.len())
 }
 
 // The work of an update that is not refused. Only a partial block goes through the pending bytes.
-pub fn absorb(h: Hasher, bytes: &[u8], table: &[u32], conditions: &[u32], masks: &[u32]) -> Hasher
-    requires { Ready h bytes.now conditions.now }
-    ensures { result ≡ absorbed h bytes.now (loan_of table.now conditions.now masks.now) }
+pub fn absorb(h: Hasher, bytes: &[u8], lent: Lent<'_>) -> Hasher
+    requires { Ready h bytes.now lent.conditions.now }
+    ensures { result ≡ absorbed h bytes.now (loan_in lent.entry) }
 {
     let fill = h.fill;
-    let flags = h.flags;
-    let c = h.chain();
     let mut pending = h.pending;
-    let room = 64 - fill;
-    if bytes.len() < room {
-        store(&mut pending, fill, bytes, bytes.len());
-        return Hasher::at(flags, c, pending, fill + bytes.len());
+    if bytes.len() < 64 - fill {
+        let end = fill + bytes.len();
+        pending[fill..end].copy_from_slice(bytes);
+        // Each field by its name: copied whole, a hasher goes through memory in other pieces than it is read in next, and an update
+        // of 20 bytes takes a fifth more time.
+        let words = h.words;
+        let first = h.first;
+        return Hasher {
+            words,
+            pending,
+            fill: end,
+            blocks: h.blocks,
+            flags: h.flags,
+            mark: h.mark,
+            first: FirstMark {
+                block: first.block,
+                place: first.place,
+            },
+        };
     }
+    let c = h.chain();
     if fill == 0 {
-        return advance(flags, table, conditions, c, bytes, masks);
+        return advance(h.flags, c, bytes, lent);
     }
-    store(&mut pending, fill, bytes, room);
-    let filled = fold_blocks(flags, table, conditions, c, &pending, masks);
-    advance(
-        flags,
-        table,
-        conditions,
-        filled,
-        &bytes[room..],
-        masks_from(masks, 1),
-    )
+    let (front, rest) = bytes.split_at(64 - fill);
+    pending[fill..].copy_from_slice(front);
+    let filled = fold_blocks(h.flags, c, &pending, lent);
+    advance(h.flags, filled, rest, lent.later(1))
 }

@@ -1,2 +1,1 @@
-pub mod Guards
-pub mod Lengths
+pub mod Told

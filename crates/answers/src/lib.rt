@@ -1,158 +1,115 @@
 // What a call answers: its number, and what it leaves in the slices that it may write.
 #![tactic(auto)]
 
-ghost use Rattle.std.specs.Prelude.{◌≡◌, [], ◌∷◌, length};
+ghost use Rattle.std.specs.Prelude.{◌≡◌, [], ◌∷◌, ◌++◌, length};
 ghost use Rattle.refusal.specs.Refusal.{number_of};
-ghost use Rattle.verdict.specs.Verdict.{digest_size};
 ghost use Rattle.finish.specs.Finish.{outcome_refusal};
-ghost use Rattle.answers.specs.Answers.{left, unless_refused, answer_pair, verdict_in, outcome_answer, block_left, updated_left, digest_left, finish_reset_left};
+ghost use Rattle.layout.specs.Layout.{SameSlices, slices_lent};
+ghost use Rattle.answers.specs.Answers.{answer_pair, block_told, hasher_by, hasher_or, left, outcome_answer, told_by, told_first, told_outcome, updated_told};
 
-use copies::{put_digest, put_four, put_two, put_words};
 use detect::OneBlock;
-use finish::{FinishedReset, Outcome};
-use hasher::Updated;
-use layout::{bit_of, put_hasher, verdict_number};
-use refusal::{Refusal, is_nothing, number, place};
+use finish::FinishedReset;
+use hasher::Hasher;
+use layout::{HasherSlices, verdict_number};
+use refusal::{Refusal, number_of, place_of};
 use stream::FirstMark;
-use verdict::DIGEST_SIZE;
+use verdict::Verdict;
 
 // The number where a caller breaks the header's agreement on lengths, marks, flags and verdicts: no other number is
 // above 16. A call then changes nothing.
 pub const BROKEN_AGREEMENT: u32 = 255;
 
-// What an outcome refuses.
-fn refusal_in(o: Outcome) -> Refusal
-    ensures { result ≡ outcome_refusal o }
-{
-    match o {
-        Outcome::Done(_) => Refusal::Nothing,
-        Outcome::Refused(r) => r,
-    }
-}
-
-// The number of an outcome's verdict: 0 on a refusal.
-fn verdict_in(o: Outcome) -> u64
-    ensures { result ≡ verdict_in o }
-{
-    match o {
-        Outcome::Done(v) => verdict_number(v),
-        Outcome::Refused(_) => 0,
-    }
-}
-
 // Two numbers into an answer: what the call says, and the place of the refused record. The refusal's number comes back.
-pub fn say(answer: &mut [u64], says: u64, r: Refusal) -> u32
+pub fn say(answer: &mut [u64], says: u64, checked: Result<(), Refusal>) -> u32
     requires { length answer.old ≡ 2 }
-    ensures { (result ≡ number_of r) × (answer.new ≡ answer_pair says r) }
+    ensures number { result ≡ number_of checked }
+    ensures said { answer.new ≡ answer_pair says checked }
 {
-    put_two(answer, says, place(r) as u64);
-    number(r)
+    answer.copy_from_slice(&[says, place_of(checked) as u64]);
+    number_of(checked)
 }
 
-// A verdict or a refusal into an answer, and where the first mark is. The refusal's number comes back.
-pub fn put_outcome(answer: &mut [u64], o: Outcome, first: FirstMark) -> u32
+// A verdict and where the first mark is, or a refusal, into an answer: zeros for what there is not. The refusal's number
+// comes back.
+pub fn say_outcome(answer: &mut [u64], told: Result<(Verdict, Option<FirstMark>), Refusal>) -> u32
     requires { length answer.old ≡ 4 }
-    ensures { (result ≡ number_of (outcome_refusal o)) × (answer.new ≡ outcome_answer o first) }
+    ensures number { result ≡ number_of (outcome_refusal (told_outcome told)) }
+    ensures said { answer.new ≡ outcome_answer (told_outcome told) (told_first told) }
 {
-    let r = refusal_in(o);
-    put_four(
-        answer,
-        verdict_in(o),
-        place(r) as u64,
-        first.block,
-        first.place as u64,
-    );
-    number(r)
+    match told {
+        Ok((verdict, first)) => {
+            let first = first.unwrap_or(FirstMark { block: 0, place: 0 });
+            answer.copy_from_slice(&[verdict_number(verdict), 0, first.block, first.place as u64]);
+            0
+        }
+        Err(refusal) => {
+            answer.copy_from_slice(&[0, refusal.place() as u64, 0, 0]);
+            refusal.number()
+        }
+    }
 }
 
-// The words that a call gives; where it is refused, nothing is written.
-fn give_words(out: &mut [u32], r: Refusal, w: [u32; 5])
-    requires { length out.old ≡ 5 }
-    ensures { out.new ≡ unless_refused r w out.old }
+// What an update or a reset leaves: the hasher, where it is not refused, and an answer.
+pub fn leave_updated(
+    slices: &mut HasherSlices<'_>,
+    answer: &mut [u64],
+    updated: Result<Hasher, Refusal>,
+) -> u32
+    requires words { length slices.old.words.now ≡ 5 }
+    requires pending { length slices.old.pending.now ≡ 64 }
+    requires state { length slices.old.state.now ≡ 6 }
+    requires answer { length answer.old ≡ 2 }
+    ensures same { SameSlices slices.old slices.new }
+    ensures left { left result (slices_lent slices.new ++ answer.new ∷ []) ≡ updated_told updated (slices_lent slices.old) }
 {
-    if !is_nothing(r) {
-        return;
+    if let Ok(h) = updated {
+        slices.put(h);
     }
-    put_words(out, w);
-}
-
-// The digest that a call gives; where it is refused, nothing is written.
-fn give_digest(out: &mut [u8], r: Refusal, d: [u8; DIGEST_SIZE])
-    requires { length out.old ≡ digest_size }
-    ensures { out.new ≡ unless_refused r d out.old }
-{
-    if !is_nothing(r) {
-        return;
-    }
-    put_digest(out, d);
+    say(answer, 0, updated.map(|_| ()))
 }
 
 // What one block leaves: the new words, where it is not refused; its mark, place, tried and the refused record's place.
-pub fn leave_block(after: &mut [u32], answer: &mut [u64], o: OneBlock) -> u32
-    requires { (length after.old ≡ 5) × (length answer.old ≡ 4) }
-    ensures { left result (after.new ∷ answer.new ∷ []) ≡ block_left o after.old }
+pub fn leave_block(after: &mut [u32], answer: &mut [u64], given: Result<OneBlock, Refusal>) -> u32
+    requires after { length after.old ≡ 5 }
+    requires answer { length answer.old ≡ 4 }
+    ensures { left result (after.new ∷ answer.new ∷ []) ≡ block_told given after.old }
 {
-    let w = o.words;
-    let r = o.refusal;
-    let found = o.found;
-    give_words(after, r, w);
-    put_four(
-        answer,
-        bit_of(found.mark),
-        found.place as u64,
-        found.tried as u64,
-        place(r) as u64,
-    );
-    number(r)
+    match given {
+        Ok(block) => {
+            let found = block.found;
+            after.copy_from_slice(&block.words);
+            answer.copy_from_slice(&[
+                u64::from(found.by.is_some()),
+                found.by.unwrap_or(0) as u64,
+                found.tried as u64,
+                0,
+            ]);
+            0
+        }
+        Err(refusal) => {
+            answer.copy_from_slice(&[0, 0, 0, refusal.place() as u64]);
+            refusal.number()
+        }
+    }
 }
 
-// What an update or a reset leaves: the hasher and an answer.
-pub fn leave_updated(
-    words: &mut [u32],
-    pending: &mut [u8],
-    state: &mut [u64],
-    answer: &mut [u64],
-    u: Updated,
-) -> u32
-    requires { ((length words.old ≡ 5) × (length pending.old ≡ 64) × (length state.old ≡ 6)) × (length answer.old ≡ 2) }
-    ensures { left result (words.new ∷ pending.new ∷ state.new ∷ answer.new ∷ []) ≡ updated_left u }
-{
-    let h = u.hasher;
-    let r = u.refusal;
-    put_hasher(words, pending, state, h);
-    say(answer, 0, r)
-}
-
-// What the one-shot form leaves: the digest, where it is not refused, and an answer.
-pub fn leave_digest(
-    digest: &mut [u8],
-    answer: &mut [u64],
-    d: [u8; DIGEST_SIZE],
-    o: Outcome,
-    first: FirstMark,
-) -> u32
-    requires { (length digest.old ≡ digest_size) × (length answer.old ≡ 4) }
-    ensures { left result (digest.new ∷ answer.new ∷ []) ≡ digest_left o first d digest.old }
-{
-    give_digest(digest, refusal_in(o), d);
-    put_outcome(answer, o, first)
-}
-
-// What a finish-and-reset leaves: the hasher and an answer, around the output that it wrote before.
+// What a finish-and-reset leaves beside its output: the hasher, where it is not refused, and an answer.
 pub fn leave_finish_reset(
-    words: &mut [u32],
-    pending: &mut [u8],
-    state: &mut [u64],
-    out: &[u8],
+    slices: &mut HasherSlices<'_>,
     answer: &mut [u64],
-    c: FinishedReset,
+    finished: Result<FinishedReset, Refusal>,
 ) -> u32
-    requires { ((length words.old ≡ 5) × (length pending.old ≡ 64) × (length state.old ≡ 6)) × (length answer.old ≡ 4) }
-    ensures { left result (words.new ∷ pending.new ∷ state.new ∷ out.now ∷ answer.new ∷ []) ≡ finish_reset_left c out.now }
+    requires words { length slices.old.words.now ≡ 5 }
+    requires pending { length slices.old.pending.now ≡ 64 }
+    requires state { length slices.old.state.now ≡ 6 }
+    requires answer { length answer.old ≡ 4 }
+    ensures same { SameSlices slices.old slices.new }
+    ensures number { result ≡ number_of (outcome_refusal (told_outcome (told_by finished))) }
+    ensures laid { slices_lent slices.new ≡ hasher_or (hasher_by finished) (slices_lent slices.old) }
+    ensures said { answer.new ≡ outcome_answer (told_outcome (told_by finished)) (told_first (told_by finished)) }
 {
-    let h = c.hasher;
-    let outcome = c.outcome;
-    let first = c.first;
-    put_hasher(words, pending, state, h);
-    put_outcome(answer, outcome, first)
+    if let Ok(f) = finished {
+        slices.put(f.hasher);
+    }
+    say_outcome(answer, finished.map(|f| (f.verdict, f.first)))
 }

@@ -9,8 +9,7 @@ use native.Mathlib.Omega.{arith}
 use borrow.Author.Tests.{lt-ltb}
 use lib.Dec.{ltb, leb-suc-suc}
 use Rattle.word.specs.Choice.{pick}
-use Rattle.arguments.specs.Arguments.{is_table, is_raw, is_unknown, count, setting_of, no_setting, with_kind}
-use Rattle.arguments.specs.declared.Setting.{Setting}
+use Rattle.arguments.specs.Arguments.{is_table, is_raw, is_unknown, count, Setting, setting_of, no_setting, with_kind}
 use Rattle.arguments.specs.declared.ArgumentKind.{ArgumentKind}
 use Rattle.arguments.specs.declared.ArgumentKind.TheVariants.{Table, Raw, Unknown}
 

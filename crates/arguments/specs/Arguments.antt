@@ -1,4 +1,4 @@
--- What the program's arguments ask. 01, "The barcode sheet and the program".
+-- What the program's arguments ask.
 use Rattle.std.specs.Prelude.{Bool, true, false, not, ◌||◌, List, [], ◌∷◌, ℕ, suc, ltb, take, drop}
 use Rattle.word.specs.Choice.{pick}
 use Rattle.octets.specs.Octets.{same_bytes}
@@ -6,7 +6,6 @@ use Rattle.flags.specs.declared.Flags.{Flags}
 use Rattle.flags.specs.declared.Masks.TheVariants.{All}
 use Rattle.arguments.specs.declared.ArgumentKind.{ArgumentKind}
 use Rattle.arguments.specs.declared.ArgumentKind.TheVariants.{Table, Raw, Unknown}
-use Rattle.arguments.specs.declared.Setting.{Setting}
 
 -- `table=`, in ASCII
 abbrev pub table_sign : List ℕ
@@ -50,6 +49,12 @@ is_unknown Unknown = true
 unfoldable pub count : (ArgumentKind → Bool) → List ArgumentKind → ℕ
 count test [] = 0
 count test (k ∷ ks) = pick (test k) (suc (count test ks)) (count test ks)
+
+-- what some arguments ask: a table, no mitigation; or that one of them is unknown or repeated
+pub record Setting : Type 0 where
+  pub table : Bool
+  pub raw : Bool
+  pub bad : Bool
 
 -- what all arguments ask, in whatever order: a table, no mitigation; an unknown or repeated one is bad
 unfoldable pub setting_of : List ArgumentKind → Setting

@@ -22,8 +22,7 @@ use Rattle.hasher.specs.Hasher.{taken}
 use Rattle.hasher.specs.declared.Hasher.{Hasher}
 use Rattle.absorb.specs.Absorb.{stream_of}
 use Rattle.update.specs.Update.{blocks_filled}
-use Rattle.finish.specs.Finish.{outcome_number}
-use Rattle.finish.specs.declared.Outcome.{Outcome}
+use Rattle.finish.specs.Finish.{outcome_number, Outcome}
 use Rattle.bench.specs.Bench.{lane_of, on_lane, lane_update_refusal, lane_updated, lane_outcome, lane_first, lane_finished, lane_written}
 use Rattle.claims.specs.Refusals.{WellFormed}
 use Rattle.claims.specs.Sound.{Typed, TypedVectors, TypedConditions}

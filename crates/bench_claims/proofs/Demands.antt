@@ -5,6 +5,8 @@ use mathlib.Core.Logic.{◌↔◌}
 use mathlib.Core.Bool.{true, false}
 use mathlib.Core.List.{List}
 use Prim.Native.Nat.{ℕ}
+use Rattle.std.specs.Prelude.{Ok as Done}
+use Rattle.finish.specs.Finish.{Outcome}
 use Rattle.word.specs.Lists.{AllBytes}
 use Rattle.verdict.specs.declared.Verdict.{Verdict}
 use Rattle.verdict.specs.declared.Verdict.TheVariants.{Ok, Mitigated, Collision}
@@ -12,8 +14,6 @@ use Rattle.fips.specs.Fips.{padded, initial, sha1}
 use Rattle.flags.specs.declared.Flags.{Flags}
 use Rattle.loan.specs.Loan.{Tables}
 use Rattle.hasher.specs.declared.Hasher.{Hasher}
-use Rattle.finish.specs.declared.Outcome.{Outcome}
-use Rattle.finish.specs.declared.Outcome.TheVariants.{Done}
 use Rattle.claims.specs.Sound.{TypedVectors}
 use Rattle.claims.specs.Pieces.{Piece, bytes_of, hashed, loan_of_all, block_masks, NoneRefused}
 use Rattle.claims.specs.Marked.{marked_by, sha1_marked, NoneMarked, OneMarked}

@@ -5,15 +5,17 @@ use mathlib.Core.List.{List, [], ◌∷◌}
 use Prim.Native.Nat.{ℕ}
 use native.Mathlib.Omega.{arith}
 use lib.ListN.{length}
+use borrow.Author.Tests.{eq-eqb, ne_eqb}
+use lib.Dec.{eqb}
+use Rattle.std.specs.Prelude.{Ok, is_ok}
 use Rattle.word.specs.Choice.{pick}
-use Rattle.refusal.specs.Refusal.{is_nothing}
-use Rattle.refusal.specs.declared.Refusal.TheVariants.{Nothing}
+use Rattle.refusal.specs.Refusal.{number_of, Checked}
+use Rattle.refusal.proofs.Chains.{passes, numberless}
 use Rattle.verdict.specs.Verdict.{digest_size}
 use Rattle.flags.specs.declared.Flags.{Flags}
 use Rattle.loan.specs.Loan.{Tables, Loan, lend}
-use Rattle.hasher.specs.Hasher.{fresh_of}
+use Rattle.hasher.specs.Hasher.{fresh_of, UpdateAccount}
 use Rattle.hasher.specs.declared.Hasher.{Hasher}
-use Rattle.hasher.specs.declared.Updated.{Updated}
 use Rattle.finish.specs.Finish.{finish_refusal, outcome_number, finished_reset}
 use Rattle.bench.specs.Bench.{lane_of}
 use Rattle.claims.specs.Pieces.{Piece, piecewise, taking, NoneRefused}
@@ -25,23 +27,32 @@ use Rattle.bench_claims.proofs.Independence.{still-there-run, lane-alone, respon
 use Rattle.bench_claims.proofs.OwnMessage.{accepted-taken}
 
 -- the first of updates of which none is refused is accepted
-first-accepted : (u v : Updated) (c : Call) (cs ds : List Call) → (b : Bool) → is_nothing u.refusal ≡ b → (pick b v u).refusal ≡ Nothing
-    → (v.refusal ≡ Nothing → cs ≡ ds) → pick b (c ∷ cs) cs ≡ c ∷ ds
+first-accepted : (u v : UpdateAccount) (c : Call) (cs ds : List Call) → (b : Bool) → is_ok u.refusal ≡ b → (pick b v u).refusal ≡ Ok tt
+    → (v.refusal ≡ (Ok tt) → cs ≡ ds) → pick b (c ∷ cs) cs ≡ c ∷ ds
 first-accepted u v c cs ds true k z rest = ap (λ (xs : List Call). c ∷ xs) (rest z)
-first-accepted u v c cs ds false k z rest = absurd (true≢false (ap is_nothing (sym z) ∙ k))
+first-accepted u v c cs ds false k z rest = absurd (true≢false (ap is_ok (sym z) ∙ k))
+
+-- by the number or by the answer, a check passes or not
+by-number : (r : Checked) → eqb (number_of r) 0 ≡ is_ok r
+by-number r = by (is_ok r) refl
+  where
+    by : (b : Bool) → is_ok r ≡ b → eqb (number_of r) 0 ≡ is_ok r
+    by true e = eq-eqb _ 0 (numberless r e) ∙ sym e
+    by false e = ne_eqb _ 0 (λ z. true≢false (sym (passes r z) ∙ e)) ∙ sym e
 
 -- and so are all
-all-accepted : (ps : List Piece) (h : Hasher) (t : Tables) → (piecewise h t ps).refusal ≡ Nothing
+all-accepted : (ps : List Piece) (h : Hasher) (t : Tables) → (piecewise h t ps).refusal ≡ Ok tt
     → accepted_calls (updates_with t ps) (responses_of h (updates_with t ps)) ≡ updates_with t ps
 all-accepted [] h t e = refl
 all-accepted (p ∷ ps) h t e =
     let u = updated_by h t p in
     let cs = updates_with t ps in
-    first-accepted u (piecewise u.hasher t ps) (updating p.bytes (lend t p.masks)) (accepted_calls cs (responses_of u.hasher cs)) cs
-    (is_nothing u.refusal) refl (ap (λ (v : Updated). v.refusal) (sym (piecewise-cons h t p ps)) ∙ e) (λ z. all-accepted ps u.hasher t z)
+    rw (by-number u.refusal)
+    (first-accepted u (piecewise u.hasher t ps) (updating p.bytes (lend t p.masks)) (accepted_calls cs (responses_of u.hasher cs)) cs
+    (is_ok u.refusal) refl (ap (λ (v : UpdateAccount). v.refusal) (sym (piecewise-cons h t p ps)) ∙ e) (λ z. all-accepted ps u.hasher t z))
 
 -- a finish-and-reset that refuses nothing has the number 0
-accepted-0 : (h : Hasher) (size : ℕ) (l : Loan) → finish_refusal h size l ≡ Nothing → outcome_number (finished_reset h size l).outcome ≡ 0
+accepted-0 : (h : Hasher) (size : ℕ) (l : Loan) → finish_refusal h size l ≡ (Ok tt) → outcome_number (finished_reset h size l).outcome ≡ 0
 unfolding finished_reset
 accepted-0 h size l e = rw e
 
@@ -59,7 +70,7 @@ module _ (bench : List Hasher) (run : List LaneCall) (lane : ℕ) (f : Flags) (t
   lane-takes =
       lane-alone run bench lane has
       ∙ rw (starts, own)
-      (sym (ap (λ (u : Updated). u.hasher) (accepted-taken (updates_with t ps) (fresh_of f) t ps (all-accepted ps (fresh_of f) t ok.updates))))
+      (sym (ap (λ (u : UpdateAccount). u.hasher) (accepted-taken (updates_with t ps) (fresh_of f) t ps (all-accepted ps (fresh_of f) t ok.updates))))
 
   -- And its finish is not refused, so that all that is said of a lane's message holds of this one.
   pub lane-ends : LaneMessage bench run lane f t ps out last

@@ -5,21 +5,17 @@ use mathlib.Core.Bool.{true}
 use mathlib.Core.List.{List, [], ◌∷◌}
 use Prim.Native.Nat.{ℕ}
 use native.Mathlib.Omega.{arith}
-use borrow.Author.Tests.{eq-eqb}
 use lib.ListN.{length}
+use Rattle.std.specs.Prelude.{Ok, is_ok}
 use Rattle.word.specs.Lists.{AllBytes}
 use Rattle.word.proofs.Tests.{of_either}
-use Rattle.refusal.specs.Refusal.{number_of, is_nothing}
-use Rattle.refusal.specs.declared.Refusal.{Refusal}
-use Rattle.refusal.specs.declared.Refusal.TheVariants.{Nothing}
-use Rattle.refusal.proofs.Chains.{nothing_is}
+use Rattle.refusal.specs.Refusal.{number_of, Checked}
+use Rattle.refusal.proofs.Chains.{nothing_is, passes}
 use Rattle.loan.specs.Loan.{Loan}
-use Rattle.hasher.specs.Hasher.{well_formed, fresh_of, reset_of}
+use Rattle.hasher.specs.Hasher.{well_formed, fresh_of, reset_of, UpdateAccount}
 use Rattle.hasher.specs.declared.Hasher.{Hasher}
-use Rattle.hasher.specs.declared.Updated.{Updated}
 use Rattle.absorb.specs.Absorb.{stream_of}
-use Rattle.finish.specs.Finish.{finish_refusal, outcome_number, finished_reset}
-use Rattle.finish.specs.declared.Outcome.{Outcome}
+use Rattle.finish.specs.Finish.{finish_refusal, outcome_number, finished_reset, Outcome}
 use Rattle.bench.specs.Bench.{lane_of, lane_update_refusal, lane_updated, lane_outcome, lane_finished, lane_reset_refusal, lane_reset}
 use Rattle.claims.specs.Sound.{Typed, TypedVectors}
 use Rattle.claims.specs.EveryCall.{MarkedAfter, last_blocks, VerdictBy}
@@ -33,8 +29,8 @@ use Rattle.bench_claims.proofs.Independence.{lane-alone}
 use Rattle.bench_claims.proofs.OwnMessage.{not-refused}
 
 -- no number but 0 is that of no refusal
-pub number-0 : (r : Refusal) → number_of r ≡ 0 → r ≡ Nothing
-number-0 r e = nothing_is r (eq-eqb (number_of r) 0 e)
+pub number-0 : (r : Checked) → number_of r ≡ 0 → r ≡ Ok tt
+number-0 r e = nothing_is r (passes r e)
 
 module _ (bench : List Hasher) (lane : ℕ) where
   -- An accepted reset leaves the lane as new, with its flags.
@@ -55,8 +51,8 @@ module _ (bench : List Hasher) (lane : ℕ) where
 call_flags : (h : Hasher) (c : Call) → (after_call h c).flags ≡ h.flags
 unfolding finished_reset reset_of
 call_flags h (updating bytes l) = update-flags h bytes l
-call_flags h (finishing out l) = of_either (λ (g : Hasher). g.flags ≡ h.flags) (is_nothing (finish_refusal h (length out) l)) _ h refl refl
-call_flags h resetting = of_either (λ (u : Updated). u.hasher.flags ≡ h.flags) (well_formed h) _ _ refl refl
+call_flags h (finishing out l) = of_either (λ (g : Hasher). g.flags ≡ h.flags) (is_ok (finish_refusal h (length out) l)) _ h refl refl
+call_flags h resetting = of_either (λ (u : UpdateAccount). u.hasher.flags ≡ h.flags) (well_formed h) _ _ refl refl
 
 -- So do calls one after the other, so a lane keeps its flags in any run.
 calls-flags : (cs : List Call) (h : Hasher) → (after_calls h cs).flags ≡ h.flags

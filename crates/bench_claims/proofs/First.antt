@@ -6,21 +6,20 @@ use mathlib.Core.List.{List, ◌∷◌}
 use Prim.Native.Nat.{ℕ}
 use native.Mathlib.Omega.{arith}
 use lib.ListN.{length}
+use Rattle.hasher.specs.Hasher.{UpdateAccount}
+use Rattle.std.specs.Prelude.{Ok, Ok as Done}
 use Rattle.word.specs.Lists.{AllBytes}
 use Rattle.refusal.specs.Refusal.{number_of}
-use Rattle.refusal.specs.declared.Refusal.TheVariants.{Nothing}
-use Rattle.verdict.specs.declared.Verdict.TheVariants.{Ok}
+use Rattle.verdict.specs.declared.Verdict.TheVariants.{Ok as OkVerdict}
 use Rattle.fips.specs.Fips.{padded, initial}
 use Rattle.flags.specs.declared.Flags.{Flags}
 use Rattle.loan.specs.Loan.{Tables, Loan, lend}
 use Rattle.stream.specs.Fold.{nowhere}
 use Rattle.stream.specs.declared.FirstMark.{FirstMark}
 use Rattle.hasher.specs.declared.Hasher.{Hasher}
-use Rattle.hasher.specs.declared.Updated.{Updated}
 use Rattle.absorb.specs.Absorb.{stream_of}
 use Rattle.update.specs.Update.{updated}
 use Rattle.finish.specs.Finish.{finish_refusal, outcome_number, finished_reset}
-use Rattle.finish.specs.declared.Outcome.TheVariants.{Done}
 use Rattle.bench.specs.Bench.{lane_of, lane_update_refusal, lane_updated, lane_outcome, lane_first}
 use Rattle.claims.specs.Sound.{Typed, TypedVectors, TypedConditions}
 use Rattle.claims.specs.Pieces.{Piece, bytes_of, piece_masks, taking, hashed, loan_of_all, NoneRefused}
@@ -42,14 +41,14 @@ module _ (bench : List Hasher) (lane : ℕ) (l : Loan) where
 
   -- what is said of an update by value is said of an accepted one of the lane,
   on-update : (P : Hasher → Type 0) (bytes : List ℕ) → number_of (lane_update_refusal bench lane bytes l) ≡ 0
-      → ((updated own bytes l).refusal ≡ Nothing → P (updated own bytes l).hasher) → P (lane_of (lane_updated bench lane bytes l) lane)
+      → ((updated own bytes l).refusal ≡ (Ok tt) → P (updated own bytes l).hasher) → P (lane_of (lane_updated bench lane bytes l) lane)
   on-update P bytes e by_value =
       let k = (lane-update-line bench lane bytes l 0 (λ z. omega arith)).0 e in
       subst P (sym (call-own bench lane (updating bytes l) k.0)) (by_value (number-0 _ k.1))
 
   -- and of a finish-and-reset of an accepted finish
   on-finish : (P : FirstMark → Type 0) (out : List ℕ) → outcome_number (lane_outcome bench lane out l) ≡ 0
-      → (finish_refusal own (length out) l ≡ Nothing → P (finished_reset own (length out) l).first) → P (lane_first bench lane out l)
+      → (finish_refusal own (length out) l ≡ (Ok tt) → P (finished_reset own (length out) l).first) → P (lane_first bench lane out l)
   on-finish P out e by_value =
       let k = (lane-finish-line bench lane out l 0 (λ z. omega arith)).0 e in
       subst P (sym (lane-finish-there bench lane out l k.0).3) (by_value (not-refused own (length out) l k.1))
@@ -87,10 +86,10 @@ module _ (bench : List Hasher) (lane : ℕ) (l : Loan) where
 
 -- what is said of the hasher after updates by value, from a new one, is said of a lane that accepted them in a run of any calls
 on-taking : (P : Hasher → Type 0) (bench : List Hasher) (run : List LaneCall) (lane : ℕ) (f : Flags) (t : Tables) (ps : List Piece)
-    → LaneTaking bench run lane f t ps → ((taking f t ps).refusal ≡ Nothing → P (taking f t ps).hasher) → P (lane_of (run_bench bench run) lane)
+    → LaneTaking bench run lane f t ps → ((taking f t ps).refusal ≡ (Ok tt) → P (taking f t ps).hasher) → P (lane_of (run_bench bench run) lane)
 on-taking P bench run lane f t ps m by_value =
     let e = lane-taken bench run lane f t ps m in
-    subst (λ (u : Updated). P u.hasher) e (by_value (ap (λ (u : Updated). u.refusal) e))
+    subst (λ (u : UpdateAccount). P u.hasher) e (by_value (ap (λ (u : UpdateAccount). u.refusal) e))
 
 -- Before its finish a lane has the numbers of the first marked block of its message so far, from 0, and of the first selected record that marks it,
 pub lane-taking-told : (bench : List Hasher) (run : List LaneCall) (lane : ℕ) (f : Flags) (t : Tables) (ps : List Piece) → LaneTaking bench run lane f t ps
@@ -147,7 +146,7 @@ module _ (bench : List Hasher) (run : List LaneCall) (lane : ℕ) (f : Flags) (t
 
     -- The lane's finish answers ok and hands out zeros exactly when no selected sibling meets a block of its message, padding included.
     pub lane-unmarked-first : (OneMetOn f (loan_of_all t ps last) initial (padded (bytes_of ps)) → ⊥)
-        ↔ ((last_outcome bench run lane out t last ≡ Done Ok) × (last_first bench run lane out t last ≡ nowhere))
+        ↔ ((last_outcome bench run lane out t last ≡ Done OkVerdict) × (last_first bench run lane out t last ≡ nowhere))
     lane-unmarked-first =
         rw (lane_outcome_lem bench run lane f t ps out last m, lane_first_lem bench run lane f t ps out last m)
         (message-unmarked f t ps last b words (lane-none-refused bench run lane f t ps out last m))

@@ -8,12 +8,12 @@ use native.Mathlib.Omega.{arith}
 use borrow.Author.Tests.{ltb-true, ltb-false, lt-ltb, leb-true, leb-false, le-leb}
 use lib.Dec.{leb}
 use lib.ListN.{length, set}
+use Rattle.finish.specs.Finish.{Outcome}
 use Rattle.word.proofs.Tests.{both_true, one-false, unless-true}
 use Rattle.refusal.proofs.Chains.{Decides}
 use Rattle.lane.specs.Lane.{most_lanes, has_lane}
 use Rattle.stream.specs.declared.FirstMark.{FirstMark}
 use Rattle.hasher.specs.declared.Hasher.{Hasher}
-use Rattle.finish.specs.declared.Outcome.{Outcome}
 use Rattle.bench.specs.Bench.{lane_of, on_lane}
 use Rattle.bench_claims.specs.Calls.{Call, updating, finishing, resetting, of_outcome, turned_away, response_of, after_call, lane_response, bench_after, NoSuchLane, LaneThere}
 

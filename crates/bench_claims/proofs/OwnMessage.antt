@@ -5,26 +5,22 @@ use mathlib.Core.Bool.{Bool, true, false}
 use mathlib.Core.List.{List, [], ◌∷◌}
 use Prim.Native.Nat.{ℕ}
 use native.Mathlib.Omega.{arith}
-use borrow.Author.Tests.{eq-eqb, eqb-true, eqb-false}
+use borrow.Author.Tests.{eqb-true, eqb-false}
 use lib.Dec.{eqb}
 use lib.ListN.{length}
+use Rattle.std.specs.Prelude.{Ok, is_ok}
 use Rattle.word.specs.Choice.{pick}
-use Rattle.refusal.specs.Refusal.{number_of, is_nothing}
-use Rattle.refusal.specs.declared.Refusal.TheVariants.{Nothing}
-use Rattle.refusal.proofs.Chains.{nothing_is}
-use Rattle.refusal.proofs.Passed.{of_refusal_lem}
+use Rattle.refusal.specs.Refusal.{number_of}
+use Rattle.refusal.proofs.Chains.{nothing_is, passes}
 use Rattle.verdict.specs.Verdict.{digest_size}
 use Rattle.flags.specs.declared.Flags.{Flags}
 use Rattle.loan.specs.Loan.{Tables, Loan, lend}
-use Rattle.hasher.specs.Hasher.{fresh_of}
+use Rattle.hasher.specs.Hasher.{fresh_of, UpdateAccount}
 use Rattle.hasher.specs.declared.Hasher.{Hasher}
-use Rattle.hasher.specs.declared.Updated.{Updated}
 use Rattle.finish.specs.Finish.{finish_refusal, outcome_number, finished_reset}
-use Rattle.finish.specs.declared.Outcome.{Outcome}
-use Rattle.finish.specs.declared.Outcome.TheVariants.{Refused}
 use Rattle.bench.specs.Bench.{lane_of, lane_finished}
 use Rattle.claims.specs.Pieces.{Piece, piecewise, taking, hashed, NoneRefused}
-use Rattle.claims.proofs.Refusals.{finish-reset-0}
+use Rattle.claims.proofs.Refusals.{finish-reset-0, finish-reset-is}
 use Rattle.claims.proofs.FinishReset.{finish-reset-outcome, finish-reset-first, finish-reset-writes}
 use Rattle.claims.proofs.Kept.{pieces-flags}
 use Rattle.claims.proofs.Piecewise.{updated_by, piecewise-nil, piecewise-cons}
@@ -44,14 +40,14 @@ none_left t (p ∷ ps) e = let z : ◌≡◌ {A = ℕ} 0 1 = cc in absurd (omega
 -- the first accepted call is an update with the first piece
 first-update : (h : Hasher) (t : Tables) (ps : List Piece) (c : Call) (cs : List Call) (g : Hasher) → response_number (response_of h c) ≡ 0
     → c ∷ cs ≡ updates_with t ps
-    → ((qs : List Piece) → cs ≡ updates_with t qs → piecewise (after_call h c) t qs ≡ record { refusal = Nothing; hasher = g })
-    → piecewise h t ps ≡ record { refusal = Nothing; hasher = g }
+    → ((qs : List Piece) → cs ≡ updates_with t qs → piecewise (after_call h c) t qs ≡ record { refusal = (Ok tt); hasher = g })
+    → piecewise h t ps ≡ record { refusal = (Ok tt); hasher = g }
 first-update h t [] c cs g z e rest = let z : ◌≡◌ {A = ℕ} 0 1 = cc in absurd (omega arith)
 first-update h t (p ∷ ps) c cs g z e rest =
     let u = updating p.bytes (lend t p.masks) in
     let same : c ≡ u = cc in
     let n : response_number (response_of h u) ≡ 0 = ap (λ (d : Call). response_number (response_of h d)) (sym same) ∙ z in
-    let k : is_nothing (updated_by h t p).refusal ≡ true = eq-eqb (number_of (updated_by h t p).refusal) 0 n in
+    let k : is_ok (updated_by h t p).refusal ≡ true = passes (updated_by h t p).refusal n in
     piecewise-cons h t p ps
     ∙ ap (λ (b : Bool). pick b (piecewise (updated_by h t p).hasher t ps) (updated_by h t p)) k
     ∙ ap (λ (d : Call). piecewise (after_call h d) t ps) (sym same)
@@ -60,15 +56,15 @@ first-update h t (p ∷ ps) c cs g z e rest =
 -- one more call, accepted or refused, in front of others
 one_more : (h : Hasher) (t : Tables) (ps : List Piece) (c : Call) (cs : List Call) (g : Hasher) → (b : Bool) → eqb (response_number (response_of h c)) 0 ≡ b
     → pick b (c ∷ cs) cs ≡ updates_with t ps
-    → ((qs : List Piece) → cs ≡ updates_with t qs → piecewise (after_call h c) t qs ≡ record { refusal = Nothing; hasher = g })
-    → piecewise h t ps ≡ record { refusal = Nothing; hasher = g }
+    → ((qs : List Piece) → cs ≡ updates_with t qs → piecewise (after_call h c) t qs ≡ record { refusal = (Ok tt); hasher = g })
+    → piecewise h t ps ≡ record { refusal = (Ok tt); hasher = g }
 one_more h t ps c cs g true k e rest = first-update h t ps c cs g (eqb-true (response_number (response_of h c)) 0 k) e rest
 one_more h t ps c cs g false k e rest =
     ap (λ (i : Hasher). piecewise i t ps) (sym (call_kept h c (eqb-false (response_number (response_of h c)) 0 k))) ∙ rest ps e
 
 -- Calls of which the accepted ones are updates leave what these updates leave alone, and none of these is refused.
 pub accepted-taken : (cs : List Call) (h : Hasher) (t : Tables) (ps : List Piece) → accepted_calls cs (responses_of h cs) ≡ updates_with t ps
-    → piecewise h t ps ≡ record { refusal = Nothing; hasher = after_calls h cs }
+    → piecewise h t ps ≡ record { refusal = (Ok tt); hasher = after_calls h cs }
 accepted-taken [] h t ps e = rw (none_left t ps e) (piecewise-nil h t)
 accepted-taken (c ∷ cs) h t ps e =
     let g = after_call h c in
@@ -76,15 +72,12 @@ accepted-taken (c ∷ cs) h t ps e =
     (λ qs k. accepted-taken cs g t qs k)
 
 -- a finish-and-reset whose number is 0 refuses nothing
-pub not-refused : (h : Hasher) (size : ℕ) (l : Loan) → outcome_number (finished_reset h size l).outcome ≡ 0 → finish_refusal h size l ≡ Nothing
-unfolding finished_reset
-not-refused h size l =
-    let r = finish_refusal h size l in
-    of_refusal_lem (λ (o : Outcome). outcome_number o ≡ 0 → r ≡ Nothing) r _ (Refused r) (λ e k. e) (λ e k. nothing_is r (eq-eqb (number_of r) 0 k))
+pub not-refused : (h : Hasher) (size : ℕ) (l : Loan) → outcome_number (finished_reset h size l).outcome ≡ 0 → finish_refusal h size l ≡ Ok tt
+not-refused h size l n = nothing_is _ (passes _ (sym (ap number_of (finish-reset-is h size l)) ∙ n))
 
 -- The hasher of a lane after a run in which it accepts updates alone is that after these by value, from a new one, and none of them is refused.
 pub lane-taken : (bench : List Hasher) (run : List LaneCall) (lane : ℕ) (f : Flags) (t : Tables) (ps : List Piece) → LaneTaking bench run lane f t ps
-    → taking f t ps ≡ record { refusal = Nothing; hasher = lane_of (run_bench bench run) lane }
+    → taking f t ps ≡ record { refusal = (Ok tt); hasher = lane_of (run_bench bench run) lane }
 lane-taken bench run lane f t ps m =
     let e : accepted_calls (own_calls lane run) (responses_of (fresh_of f) (own_calls lane run)) ≡ updates_with t ps =
     ap (accepted_calls (own_calls lane run)) (ap (λ (h : Hasher). responses_of h (own_calls lane run)) (sym m.starts) ∙ sym (responses-alone run bench lane m.has))
@@ -102,11 +95,11 @@ module _ (bench : List Hasher) (run : List LaneCall) (lane : ℕ) (f : Flags) (t
   there-before = as-long-there (run_bench bench run) bench lane (sym (run_length run bench)) there
 
   -- the lane's hasher after the run is that after the message's updates, of which none is refused
-  taken_is : taking f t ps ≡ record { refusal = Nothing; hasher = lane_of (run_bench bench run) lane }
+  taken_is : taking f t ps ≡ record { refusal = (Ok tt); hasher = lane_of (run_bench bench run) lane }
   taken_is = lane-taken bench run lane f t ps (record { has = there-before; starts = m.starts; updates = m.updates })
 
   -- nor is the finish
-  finish-taken : finish_refusal (lane_of (run_bench bench run) lane) (length out) (lend t last) ≡ Nothing
+  finish-taken : finish_refusal (lane_of (run_bench bench run) lane) (length out) (lend t last) ≡ Ok tt
   finish-taken =
       let w = lane-finish-there (run_bench bench run) lane out (lend t last) there in
       not-refused (lane_of (run_bench bench run) lane) (length out) (lend t last) (sym (ap outcome_number w.0) ∙ m.finish)
@@ -148,4 +141,4 @@ module _ (bench : List Hasher) (run : List LaneCall) (lane : ℕ) (f : Flags) (t
       let g = lane_of (run_bench bench run) lane in
       call-own (run_bench bench run) lane (finishing out (lend t last)) there
       ∙ finish-reset-fresh g (length out) (lend t last) finish-taken
-      ∙ ap fresh_of (ap (λ (u : Updated). u.hasher.flags) (sym taken_is) ∙ pieces-flags (fresh_of f) t ps)
+      ∙ ap fresh_of (ap (λ (u : UpdateAccount). u.hasher.flags) (sym taken_is) ∙ pieces-flags (fresh_of f) t ps)

@@ -5,6 +5,7 @@ use mathlib.Core.Logic.{◌↔◌}
 use mathlib.Core.List.{List, [], ◌∷◌}
 use Prim.Native.Nat.{ℕ}
 use lib.ListN.{length, set}
+use Rattle.std.specs.Prelude.{Err, Err as Refused}
 use Rattle.refusal.specs.Refusal.{number_of}
 use Rattle.refusal.specs.declared.Refusal.TheVariants.{NoLane}
 use Rattle.refusal.proofs.Numbers.{apart}
@@ -13,7 +14,6 @@ use Rattle.hasher.specs.Hasher.{reset_of}
 use Rattle.hasher.specs.declared.Hasher.{Hasher}
 use Rattle.update.specs.Update.{updated}
 use Rattle.finish.specs.Finish.{outcome_number, finished_reset, written_out}
-use Rattle.finish.specs.declared.Outcome.TheVariants.{Refused}
 use Rattle.bench.specs.Bench.{lane_of, on_lane, lane_update_refusal, lane_updated, lane_outcome, lane_first, lane_finished, lane_written, lane_reset_refusal, lane_reset}
 use Rattle.claims.proofs.Refusals.{update-only, finish-reset-only, reset-only}
 use Rattle.bench_claims.specs.Calls.{Call, updating, finishing, resetting, response_number, turned_away, response_of, lane_response, NoSuchLane, LaneThere}
@@ -58,7 +58,7 @@ module _ (bench : List Hasher) (lane : ℕ) where
     pub lane-update-10 : (number_of (lane_update_refusal bench lane bytes l) ≡ 10) ↔ NoSuchLane bench lane
     lane-update-10 = call-10 (updating bytes l)
 
-    pub lane-update-no-lane : (lane_update_refusal bench lane bytes l ≡ NoLane) ↔ NoSuchLane bench lane
+    pub lane-update-no-lane : (lane_update_refusal bench lane bytes l ≡ (Err NoLane)) ↔ NoSuchLane bench lane
     unfolding on_lane
     lane-update-no-lane = (λ e. lane-update-10.0 (ap number_of e), λ n. rw ((has-decides bench lane).off.1 n))
 
@@ -100,7 +100,7 @@ module _ (bench : List Hasher) (lane : ℕ) where
   pub lane-reset-10 : (number_of (lane_reset_refusal bench lane) ≡ 10) ↔ NoSuchLane bench lane
   lane-reset-10 = call-10 resetting
 
-  pub lane-reset-no-lane : (lane_reset_refusal bench lane ≡ NoLane) ↔ NoSuchLane bench lane
+  pub lane-reset-no-lane : (lane_reset_refusal bench lane ≡ (Err NoLane)) ↔ NoSuchLane bench lane
   unfolding on_lane
   lane-reset-no-lane = (λ e. lane-reset-10.0 (ap number_of e), λ n. rw ((has-decides bench lane).off.1 n))
 

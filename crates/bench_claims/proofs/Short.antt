@@ -8,15 +8,14 @@ use mathlib.Core.List.{List, [], ◌∷◌, ◌++◌}
 use Prim.Native.Nat.{ℕ}
 use native.Mathlib.Omega.{arith}
 use lib.ListN.{length}
-use Rattle.refusal.specs.Refusal.{number_of, one_of}
-use Rattle.refusal.specs.declared.Refusal.{Refusal}
-use Rattle.refusal.specs.declared.Refusal.TheVariants.{Nothing}
+use Rattle.hasher.specs.Hasher.{UpdateAccount}
+use Rattle.std.specs.Prelude.{Ok}
+use Rattle.refusal.specs.Refusal.{number_of, one_of, Checked}
 use Rattle.refusal.proofs.Numbers.{apart}
 use Rattle.flags.specs.Flags.{uses_masks}
 use Rattle.flags.specs.declared.Flags.{Flags}
 use Rattle.loan.specs.Loan.{Tables, Loan, lend, both_numbers, GoodTables}
 use Rattle.hasher.specs.declared.Hasher.{Hasher}
-use Rattle.hasher.specs.declared.Updated.{Updated}
 use Rattle.update.specs.Update.{updated}
 use Rattle.update.proofs.Taken.{taken-update}
 use Rattle.finish.specs.Finish.{outcome_number}
@@ -71,17 +70,17 @@ pub lane-bad-message : (bench : List Hasher) (run : List LaneCall) (lane : ℕ) 
 lane-bad-message bench run lane f t ps out last bad m = bad-message f t ps last bad (lane-none-refused bench run lane f t ps out last m)
 
 -- what updates get of which the first are taken
-taken-first : (front rest : List Piece) (h : Hasher) (t : Tables) → (piecewise h t front).refusal ≡ Nothing
+taken-first : (front rest : List Piece) (h : Hasher) (t : Tables) → (piecewise h t front).refusal ≡ Ok tt
     → responses_of h (updates_with t (front ++ rest)) ≡ taken_each front ++ responses_of (piecewise h t front).hasher (updates_with t rest)
 taken-first [] rest h t e = rw (piecewise-nil h t)
 taken-first (p ∷ front) rest h t e =
     let a = first_taken h t p front e in
     let next = piecewise-next h t p front a in
-    ap (λ (u : Updated). of_refusal u.refusal ∷ responses_of u.hasher (updates_with t (front ++ rest))) (taken-update h p.bytes (lent_with t p) a)
-    ∙ ap (λ (rs : List Response). of_refusal Nothing ∷ rs) (rw next (taken-first front rest _ t (rw next at e)))
+    ap (λ (u : UpdateAccount). of_refusal u.refusal ∷ responses_of u.hasher (updates_with t (front ++ rest))) (taken-update h p.bytes (lent_with t p) a)
+    ∙ ap (λ (rs : List Response). of_refusal (Ok tt) ∷ rs) (rw next (taken-first front rest _ t (rw next at e)))
 
 -- what those of a run that ends get: the ones after the end find the hasher as it was there
-ends-get : (h : Hasher) (t : Tables) (ps : List Piece) (r : Refusal) (k : EndsAt h t ps r) → (number_of r ≡ 0 → ⊥)
+ends-get : (h : Hasher) (t : Tables) (ps : List Piece) (r : Checked) (k : EndsAt h t ps r) → (number_of r ≡ 0 → ⊥)
     → responses_of h (updates_with t ps) ≡ taken_each k.front ++ of_refusal r ∷ responses_of (piecewise h t k.front).hasher (updates_with t k.rest)
 ends-get h t ps r k given =
     let g = (piecewise h t k.front).hasher in

@@ -1,8 +1,8 @@
 -- Calls on one hasher by value, and calls on the lanes of a bench: what each answers and leaves, and what a run of them does. 02, request a.
-use Rattle.std.specs.Prelude.{◌≡◌, ◌⊎◌, List, [], ◌∷◌, ℕ, ◌≤◌, ◌<◌, eqb, length}
+use Rattle.std.specs.Prelude.{◌≡◌, ◌⊎◌, List, [], ◌∷◌, ℕ, ◌≤◌, ◌<◌, eqb, length, Err, Err as Refused}
 use Rattle.word.specs.Choice.{pick}
 use Rattle.word.specs.Lists.{AllBytes}
-use Rattle.refusal.specs.Refusal.{number_of}
+use Rattle.refusal.specs.Refusal.{number_of, Checked}
 use Rattle.refusal.specs.declared.Refusal.{Refusal}
 use Rattle.refusal.specs.declared.Refusal.TheVariants.{NoLane}
 use Rattle.lane.specs.Lane.{most_lanes}
@@ -12,9 +12,7 @@ use Rattle.stream.specs.declared.FirstMark.{FirstMark}
 use Rattle.hasher.specs.Hasher.{reset_of}
 use Rattle.hasher.specs.declared.Hasher.{Hasher}
 use Rattle.update.specs.Update.{updated}
-use Rattle.finish.specs.Finish.{outcome_refusal, outcome_number, finished_reset, written_out}
-use Rattle.finish.specs.declared.Outcome.{Outcome}
-use Rattle.finish.specs.declared.Outcome.TheVariants.{Refused}
+use Rattle.finish.specs.Finish.{outcome_refusal, outcome_number, finished_reset, written_out, Outcome}
 use Rattle.bench.specs.Bench.{lane_of, lane_update_refusal, lane_updated, lane_outcome, lane_first, lane_finished, lane_written, lane_reset_refusal, lane_reset}
 
 -- a call: an update with some bytes, a finish-and-reset into a lent output, as it is when lent, or a reset
@@ -25,7 +23,7 @@ pub data Call : Type 0 where
 
 -- what a caller gets: a refusal or, from a finish, an outcome, the first mark and the bytes that are left in the output
 pub data Response : Type 0 where
-  of_refusal : Refusal → Response
+  of_refusal : Checked → Response
   of_outcome : Outcome → FirstMark → List ℕ → Response
 
 -- the number of a response in the table of 01, as amended; 0 where nothing is refused
@@ -33,16 +31,16 @@ abbrev pub response_number : Response → ℕ
 response_number (of_refusal r) = number_of r
 response_number (of_outcome o first out) = outcome_number o
 
--- the refusal that a response carries, Nothing where nothing is refused
-abbrev pub refusal_in : Response → Refusal
+-- what a response says of a refusal: that nothing is refused, or which
+abbrev pub refusal_in : Response → Checked
 refusal_in (of_refusal r) = r
 refusal_in (of_outcome o first out) = outcome_refusal o
 
 -- what a refused call gets: the refusal, zeros for a first mark, and the output as it was lent
 abbrev pub refused_with : Refusal → Call → Response
-refused_with r (updating bytes l) = of_refusal r
+refused_with r (updating bytes l) = of_refusal (Err r)
 refused_with r (finishing out l) = of_outcome (Refused r) nowhere out
-refused_with r resetting = of_refusal r
+refused_with r resetting = of_refusal (Err r)
 
 -- what a call refused with 10 gets
 abbrev pub turned_away : Call → Response

@@ -1,14 +1,12 @@
 -- The message of a lane: that of its accepted updates, with one table for that lane.
-use Rattle.std.specs.Prelude.{◌≡◌, List, [], ◌∷◌, ℕ, eqb}
+use Rattle.std.specs.Prelude.{◌≡◌, List, [], ◌∷◌, ℕ, eqb, Ok}
 use Rattle.word.specs.Choice.{pick}
-use Rattle.refusal.specs.declared.Refusal.TheVariants.{Nothing}
 use Rattle.flags.specs.declared.Flags.{Flags}
 use Rattle.loan.specs.Loan.{Tables, lend}
 use Rattle.stream.specs.declared.FirstMark.{FirstMark}
 use Rattle.hasher.specs.Hasher.{fresh_of}
 use Rattle.hasher.specs.declared.Hasher.{Hasher}
-use Rattle.finish.specs.Finish.{outcome_number}
-use Rattle.finish.specs.declared.Outcome.{Outcome}
+use Rattle.finish.specs.Finish.{outcome_number, Outcome}
 use Rattle.bench.specs.Bench.{lane_of, lane_outcome, lane_first, lane_written}
 use Rattle.claims.specs.Pieces.{Piece}
 use Rattle.bench_claims.specs.Calls.{Call, updating, Response, of_refusal, response_number, LaneCall, run_responses, run_bench, own_calls, own_responses, LaneThere}
@@ -21,7 +19,7 @@ updates_with t (p ∷ ps) = updating p.bytes (lend t p.masks) ∷ updates_with t
 -- what they get where all are taken
 abbrev pub taken_each : List Piece → List Response
 taken_each [] = []
-taken_each (p ∷ ps) = of_refusal Nothing ∷ taken_each ps
+taken_each (p ∷ ps) = of_refusal (Ok tt) ∷ taken_each ps
 
 -- those of some calls that were accepted, by what each of them got
 abbrev pub accepted_calls : List Call → List Response → List Call

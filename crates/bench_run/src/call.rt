@@ -1,154 +1,103 @@
-// One call on a lane of the bench, and a line of what it answers.
-ghost use Rattle.std.specs.Prelude.{IfOk, ◌≡◌};
-ghost use Rattle.cases.specs.Numbers.{number_at};
-ghost use Rattle.loan.specs.Loan.{loan_of};
-ghost use Rattle.bench_run.specs.Row.{row_of, row_updated, row_reset};
+// One line played on the row, and what it answers written.
+ghost use Rattle.std.specs.Prelude.{◌≡◌};
+ghost use Rattle.bench_run.specs.Given.{seated_new, seated_given};
+ghost use Rattle.bench_run.specs.Row.{row_of};
 
-use crate::row::{Row, lent_of, unplayed};
-use bench_by_value::{BenchFinished, Benched, finish_through, reset_through, update_through};
-use cases::{field, front, number_at, records_of};
-use printing::{say, say_accepted, say_first, say_out};
-use replay_line::{bytes_front, hex_words, run_at, words_front};
+use crate::given::{Given, line_hasher};
+use crate::row::Row;
+use cases::{field, flags_of_bits, number_at};
+use hasher::Hasher;
+use printing::{Hex, Said};
+use replay_line::run_at;
 use std::io;
 use std::io::Write;
 
-// The call, and the lane that it names.
-fn say_call<W: Write>(out: &mut W, name: &[u8], line: &[u8]) -> io::Result<()> {
-    say(out, name)?;
-    say(out, field(line, 1))?;
-    say(out, b": ")
+// A piece of a lane's message, which field 8 has.
+fn play_update<W: Write>(row: &mut Row, out: &mut W, line: &str) -> io::Result<bool> {
+    let Some(given) = Given::of(line) else {
+        return Ok(false);
+    };
+    let Some(run) = run_at(line, 8) else {
+        return Ok(false);
+    };
+    let answer = row.update(number_at(line, 1), run.as_slice(), given.lent());
+    writeln!(out, "update {}: {}", field(line, 1), Said(answer))?;
+    Ok(true)
 }
 
-// What an update or a reset answers, and the row that it leaves.
-fn told<W: Write>(out: &mut W, row: Row, name: &[u8], line: &[u8], b: Benched) -> io::Result<Row>
-    ensures { IfOk result (λ r. r ≡ row_of row.count b.bench) }
-{
-    let refusal = b.refusal;
-    let hashers = b.bench;
-    say_call(out, name, line)?;
-    say_accepted(out, refusal)?;
-    say(out, b"\n")?;
-    Ok(Row {
-        count: row.count,
-        hashers,
-    })
+// A finish into the front of 24 bytes, of the size that field 8 has, with the first mark that it hands out.
+fn play_finish<W: Write>(row: &mut Row, out: &mut W, line: &str) -> io::Result<bool> {
+    let Some(given) = Given::of(line) else {
+        return Ok(false);
+    };
+    let mut output = [0xAAu8; 24];
+    let Some(front) = output.get_mut(..number_at(line, 8)) else {
+        return Ok(false);
+    };
+    let answer = row.finish(number_at(line, 1), front, given.lent());
+    let verdict = answer.map(|a| a.verdict);
+    let first = answer.ok().and_then(|a| a.first);
+    write!(out, "finish {}: {} ", field(line, 1), Said(verdict))?;
+    writeln!(out, "{}, {}", Hex(&output), Said(first))?;
+    Ok(true)
 }
 
-// The same of a finish, with the first mark that it hands out.
-fn told_end<W: Write>(
-    out: &mut W,
-    row: Row,
-    line: &[u8],
-    f: BenchFinished,
-    output: &[u8; 24],
-) -> io::Result<Row>
-    ensures { IfOk result (λ r. r ≡ row_of row.count f.bench) }
-{
-    let outcome = f.outcome;
-    let first = f.first;
-    let hashers = f.bench;
-    say_call(out, b"finish ", line)?;
-    say_out(out, outcome, output)?;
-    say(out, b", ")?;
-    say_first(out, first)?;
-    say(out, b"\n")?;
-    Ok(Row {
-        count: row.count,
-        hashers,
-    })
+fn play_reset<W: Write>(row: &mut Row, out: &mut W, line: &str) -> io::Result<bool> {
+    let answer = row.reset(number_at(line, 1));
+    writeln!(out, "reset {}: {}", field(line, 1), Said(answer))?;
+    Ok(true)
 }
 
-// An update of the lane that field 1 has.
-fn update_row<W: Write>(
-    out: &mut W,
-    row: Row,
-    line: &[u8],
-    bytes: &[u8],
-    table: &[u32],
-    conditions: &[u32],
-    masks: &[u32],
-) -> io::Result<Row>
-    ensures { IfOk result (λ r. r ≡ row_updated row (number_at line.now 1) bytes.now (loan_of table.now conditions.now masks.now)) }
+// All hashers, lent or not.
+fn show<W: Write>(row: &Row, out: &mut W) -> io::Result<bool> {
+    for (i, h) in row.hashers.iter().enumerate() {
+        writeln!(out, "hasher {i}: {}", Said(*h))?;
+    }
+    Ok(true)
+}
+
+// Another number of hashers lent.
+fn lend(row: &mut Row, count: usize) -> bool
+    ensures { row.new ≡ row_of count row.old.hashers }
 {
-    let hashers = row.hashers;
-    let b = update_through(
-        hashers,
-        lent_of(row),
+    row.count = count;
+    true
+}
+
+// A new hasher at a seat, with the flags of field 2.
+fn seat_new(row: &mut Row, line: &str) -> bool
+    ensures { row.new ≡ seated_new row.old line.now }
+{
+    row.seat(
         number_at(line, 1),
-        bytes,
-        table,
-        conditions,
-        masks,
-    );
-    told(out, row, b"update ", line, b)
-}
-
-// A piece of a lane's message. Field 9 has the conditions.
-pub(crate) fn play_update<W: Write>(out: &mut W, row: Row, line: &[u8]) -> io::Result<Row> {
-    let t = records_of(line);
-    let lent = hex_words(line, 7);
-    let run = run_at(line, 8);
-    let asked = hex_words(line, 9);
-    let masks = lent.words;
-    let bytes = run.bytes;
-    let conditions = asked.words;
-    if !lent.good {
-        return unplayed(out, row, line);
-    }
-    if !run.good {
-        return unplayed(out, row, line);
-    }
-    if !asked.good {
-        return unplayed(out, row, line);
-    }
-    let table = front(&t, number_at(line, 6));
-    update_row(
-        out,
-        row,
-        line,
-        bytes_front(&bytes, run.len),
-        table,
-        words_front(&conditions, asked.len),
-        words_front(&masks, lent.len),
+        Hasher::new(flags_of_bits(number_at(line, 2))),
     )
 }
 
-// The output is the front of 24 bytes; field 8 has its size. Field 9 has the conditions.
-pub(crate) fn play_finish<W: Write>(out: &mut W, row: Row, line: &[u8]) -> io::Result<Row> {
-    let t = records_of(line);
-    let lent = hex_words(line, 7);
-    let asked = hex_words(line, 9);
-    let masks = lent.words;
-    let conditions = asked.words;
-    let hashers = row.hashers;
-    let size = number_at(line, 8);
-    let mut output = [0xAAu8; 24];
-    if !lent.good {
-        return unplayed(out, row, line);
+// A hasher with the fields of the line at a seat.
+fn seat_given(row: &mut Row, line: &str) -> bool
+    ensures { row.new ≡ seated_given row.old line.now }
+{
+    match line_hasher(line) {
+        Some(h) => row.seat(number_at(line, 1), h),
+        None => false,
     }
-    if !asked.good {
-        return unplayed(out, row, line);
-    }
-    if 24 < size {
-        return unplayed(out, row, line);
-    }
-    let f = finish_through(
-        hashers,
-        lent_of(row),
-        number_at(line, 1),
-        &mut output[0..size],
-        front(&t, number_at(line, 6)),
-        words_front(&conditions, asked.len),
-        words_front(&masks, lent.len),
-    );
-    told_end(out, row, line, f, &output)
 }
 
-// Everything on a lane but its flags as at the start.
-pub(crate) fn play_reset<W: Write>(out: &mut W, row: Row, line: &[u8]) -> io::Result<Row>
-    ensures { IfOk result (λ r. r ≡ row_reset row (number_at line.now 1)) }
-{
-    let hashers = row.hashers;
-    let b = reset_through(hashers, lent_of(row), number_at(line, 1));
-    told(out, row, b"reset ", line, b)
+// A line; one that can't be played leaves the row as it was.
+pub(crate) fn play<W: Write>(row: &mut Row, out: &mut W, line: &str) -> io::Result<()> {
+    let played = match field(line, 0) {
+        "b" => lend(row, number_at(line, 1)),
+        "n" => seat_new(row, line),
+        "i" => seat_given(row, line),
+        "u" => play_update(row, out, line)?,
+        "f" => play_finish(row, out, line)?,
+        "r" => play_reset(row, out, line)?,
+        "s" => show(row, out)?,
+        _ => false,
+    };
+    if !played {
+        writeln!(out, "not played: {line}")?;
+    }
+    Ok(())
 }

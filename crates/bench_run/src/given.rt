@@ -1,54 +1,33 @@
-// The hashers that lines put on the row.
-ghost use Rattle.std.specs.Prelude.{IfOk, ◌≡◌, take};
-ghost use Rattle.replay_line.specs.Fields.{run_at};
-ghost use Rattle.bench_run.specs.Given.{line_hasher, seated_given, seated_new};
+// What lines give: hashers, and what is lent to a call.
+ghost use Rattle.std.specs.Prelude.{◌≡◌};
+ghost use Rattle.word.specs.Lists.{list_of};
+ghost use Rattle.loan.specs.Loan.{loan_in};
+ghost use Rattle.bench_run.specs.Given.{byte_of, line_hasher, lent_of};
 
-use crate::row::{Row, seated, unplayed};
-use cases::{flags_of_bits, number_at};
+use cases::{MOST_TABLE, flags_of_bits, front, number_at, records_of};
 use hasher::Hasher;
-use octets::store;
-use replay_line::{RUN_BYTES, bytes_front, five_at, run_at, word_count};
-use std::io;
-use std::io::Write;
+use loan::Lent;
+use replay_line::{Words, five_at, hex_words, run_at};
+use std::array;
 use stream::FirstMark;
 
-// A new hasher, with the flags of field 2.
-pub(crate) fn seat_new<W: Write>(out: &mut W, row: Row, line: &[u8]) -> io::Result<Row>
-    ensures { IfOk result (λ r. r ≡ seated_new row line.now) }
+// The first 64 of some bytes, with zeros behind them.
+fn pending_of(bytes: &[u8]) -> [u8; 64]
+    ensures { result ≡ list_of (byte_of bytes.now) 64 }
 {
-    seated(
-        out,
-        row,
-        line,
-        Hasher::new(flags_of_bits(number_at(line, 2))),
-    )
+    array::from_fn(|i| bytes.get(i).copied().unwrap_or(0))
 }
 
-// The first 64 bytes of a run.
-fn first_bytes(bytes: &[u8; RUN_BYTES]) -> [u8; 64]
-    ensures { result ≡ take 64 bytes.now }
-{
-    let mut p = [0u8; 64];
-    store(&mut p, 0, bytes, 64);
-    p
-}
-
-// The run of a field as pending bytes, with zeros behind it.
-fn pending_at(line: &[u8], i: usize) -> [u8; 64]
-    ensures { result ≡ take 64 (run_at line.now i).bytes }
-{
-    let run = run_at(line, i);
-    let bytes = run.bytes;
-    first_bytes(&bytes)
-}
-
-// A hasher of the fields that a line gives, well formed or not.
-fn line_hasher(line: &[u8]) -> Hasher
+// A hasher of the fields that a line gives, well formed or not. Its words must be five, and its pending bytes such as can be read.
+#[tactic(auto, unfolding(crate::specs::Given::line_hasher))]
+pub(crate) fn line_hasher(line: &str) -> Option<Hasher>
     ensures { result ≡ line_hasher line.now }
 {
-    Hasher {
-        words: five_at(line, 6),
-        pending: pending_at(line, 7),
+    let words = five_at(line, 6)?;
+    let pending = pending_of(run_at(line, 7)?.as_slice());
+    Some(Hasher {
+        words,
+        pending,
         fill: number_at(line, 3),
         blocks: number_at(line, 4) as u64,
         flags: flags_of_bits(number_at(line, 2)),
@@ -57,19 +36,37 @@ fn line_hasher(line: &[u8]) -> Hasher
             block: number_at(line, 8) as u64,
             place: number_at(line, 9),
         },
-    }
+    })
 }
 
-// Such a hasher on the row. Its words must be five, and its pending bytes such as can be read.
-pub(crate) fn seat_given<W: Write>(out: &mut W, row: Row, line: &[u8]) -> io::Result<Row>
-    ensures { IfOk result (λ r. r ≡ seated_given row line.now) }
-{
-    let pending = run_at(line, 7);
-    if word_count(line, 6) != 5 {
-        return unplayed(out, row, line);
+// What a line lends: the first words of 33 control records of which two words are changed, masks, and conditions.
+#[derive(Clone, Copy)]
+pub(crate) struct Given {
+    records: [u32; MOST_TABLE],
+    size: usize,
+    masks: Words,
+    conditions: Words,
+}
+
+impl Given {
+    // By fields 2 to 7 and field 9.
+    pub(crate) fn of(line: &str) -> Option<Given> {
+        let records = records_of(line);
+        Some(Given {
+            records,
+            size: number_at(line, 6),
+            masks: hex_words(line, 7)?,
+            conditions: hex_words(line, 9)?,
+        })
     }
-    if !pending.good {
-        return unplayed(out, row, line);
+
+    pub(crate) fn lent(&self) -> Lent<'_>
+        ensures { loan_in result ≡ lent_of self.now.records self.now.size self.now.masks self.now.conditions }
+    {
+        Lent {
+            table: front(&self.records, self.size),
+            conditions: self.conditions.as_slice(),
+            masks: self.masks.as_slice(),
+        }
     }
-    seated(out, row, line, line_hasher(line))
 }

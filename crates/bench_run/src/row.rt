@@ -1,14 +1,15 @@
-// The hashers that calls are made on, and how many of them are lent.
-ghost use Rattle.std.specs.Prelude.{IfOk, ◌≡◌, ◌≤◌};
-ghost use Rattle.cases.specs.Numbers.{number_at};
-ghost use Rattle.bench_run.specs.Row.{row_of, all_new, lent_of, seated_at};
+// The hashers that calls are made on, and how many of them are lent. A call that is refused leaves them all as they were.
+ghost use Rattle.std.specs.Prelude.{◌≡◌, ◌≤◌};
+ghost use Rattle.loan.specs.Loan.{loan_in};
+ghost use Rattle.bench_by_value.specs.ByValue.{written_through};
+ghost use Rattle.bench_run.specs.Row.{all_new, lent_of, seated_at, row_updated, row_finished, row_reset};
 
-use cases::number_at;
+use bench::LaneAnswer;
+use bench_by_value::{finish_through, reset_through, update_through};
 use flags::Flags;
 use hasher::Hasher;
-use printing::{say, say_decimal, say_hasher};
-use std::io;
-use std::io::Write;
+use loan::Lent;
+use refusal::Refusal;
 
 // One more than a bench may have.
 pub const SEATS: usize = 17;
@@ -20,73 +21,73 @@ pub struct Row {
     pub hashers: [Hasher; SEATS],
 }
 
-// A row of new hashers, of which 16 are lent.
-pub(crate) fn all_new() -> Row
-    ensures { result ≡ all_new }
-{
-    let h = Hasher::new(Flags::new());
-    Row {
-        count: 16,
-        hashers: [h; SEATS],
+impl Row {
+    // A row of new hashers, of which 16 are lent.
+    pub(crate) fn of_new() -> Row
+        ensures { result ≡ all_new }
+    {
+        Row {
+            count: 16,
+            hashers: [Hasher::new(Flags::new()); SEATS],
+        }
     }
-}
 
-// How many hashers are lent.
-pub(crate) fn lent_of(row: Row) -> usize
-    ensures { (result ≡ lent_of row) × (result ≤ 17) }
-{
-    if row.count < SEATS {
-        return row.count;
+    // How many hashers are lent.
+    fn lent(&self) -> usize
+        ensures value { result ≡ lent_of self.now }
+        ensures upper_bound { result ≤ 17 }
+    {
+        self.count.min(SEATS)
     }
-    SEATS
-}
 
-// A line that can't be played leaves the row as it was.
-pub(crate) fn unplayed<W: Write>(out: &mut W, row: Row, line: &[u8]) -> io::Result<Row>
-    ensures { IfOk result (λ r. r ≡ row) }
-{
-    say(out, b"not played: ")?;
-    say(out, line)?;
-    say(out, b"\n")?;
-    Ok(row)
-}
-
-// Another number of hashers lent.
-pub(crate) fn with_count(row: Row, line: &[u8]) -> Row
-    ensures { result ≡ row_of (number_at line.now 1) row.hashers }
-{
-    let hashers = row.hashers;
-    Row {
-        count: number_at(line, 1),
-        hashers,
+    // Another hasher at a seat, and whether the row has the seat.
+    pub(crate) fn seat(&mut self, at: usize, h: Hasher) -> bool
+        ensures { self.new ≡ seated_at self.old at h }
+    {
+        if at < SEATS {
+            self.hashers[at] = h;
+            return true;
+        }
+        false
     }
-}
 
-// The row with another hasher at the seat that field 1 has.
-pub(crate) fn seated<W: Write>(out: &mut W, row: Row, line: &[u8], h: Hasher) -> io::Result<Row>
-    ensures { IfOk result (λ r. r ≡ seated_at row (number_at line.now 1) h) }
-{
-    let at = number_at(line, 1);
-    let mut hashers = row.hashers;
-    if at < SEATS {
-        hashers[at] = h;
-        return Ok(Row {
-            count: row.count,
-            hashers,
-        });
+    // A piece of a lane's message.
+    pub(crate) fn update(
+        &mut self,
+        lane: usize,
+        bytes: &[u8],
+        lent: Lent<'_>,
+    ) -> Result<(), Refusal>
+        ensures { self.new ≡ row_updated self.old lane bytes.now (loan_in lent.entry) }
+    {
+        self.hashers = update_through(self.hashers, self.lent(), lane, bytes, lent)?;
+        Ok(())
     }
-    unplayed(out, row, line)
-}
 
-// All hashers, lent or not.
-pub(crate) fn say_row<W: Write>(out: &mut W, row: Row) -> io::Result<()> {
-    let hashers = row.hashers;
-    for i in 0..SEATS {
-        say(out, b"hasher ")?;
-        say_decimal(out, i as u64)?;
-        say(out, b": ")?;
-        say_hasher(out, hashers[i])?;
-        say(out, b"\n")?;
+    // The digest of a lane's message written to a lent output, and the lane reset.
+    pub(crate) fn finish(
+        &mut self,
+        lane: usize,
+        out: &mut [u8],
+        lent: Lent<'_>,
+    ) -> Result<LaneAnswer, Refusal>
+        ensures left { self.new ≡ row_finished self.old lane out.old (loan_in lent.entry) }
+        ensures written { out.new ≡ written_through self.old.hashers (lent_of self.old) lane out.old (loan_in lent.entry) }
+    {
+        let finished = finish_through(self.hashers, self.lent(), lane, out, lent)?;
+        let hashers = finished.bench;
+        self.hashers = hashers;
+        Ok(LaneAnswer {
+            verdict: finished.verdict,
+            first: finished.first,
+        })
     }
-    Ok(())
+
+    // Everything on a lane but its flags as at the start.
+    pub(crate) fn reset(&mut self, lane: usize) -> Result<(), Refusal>
+        ensures { self.new ≡ row_reset self.old lane }
+    {
+        self.hashers = reset_through(self.hashers, self.lent(), lane)?;
+        Ok(())
+    }
 }

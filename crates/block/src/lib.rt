@@ -8,12 +8,11 @@ ghost use Rattle.block.specs.Schedule.{words_of, schedule_of};
 ghost use Rattle.block.specs.Compress.{over_schedule, compress_of, states_of};
 ghost use Rattle.block.specs.Stage.{Stage, Onward};
 
-use octets::be_word;
 use step::{Regs, add_regs, step, steps};
 use word::mix;
 
 // What one compression leaves for detection, all in the order of FIPS 180-4.
-#[derive(Clone, Copy)]
+#[derive(Clone, Copy, Debug, PartialEq, Eq)]
 pub struct States {
     // After steps 0 to 57.
     pub s58: Regs,
@@ -24,18 +23,18 @@ pub struct States {
 }
 
 // Word i of a block.
-fn word_at(block: &[u8], i: usize) -> u32
-    requires { (length block.now ≡ 64) × (i < 16) }
+fn word_at(block: &[u8; 64], i: usize) -> u32
+    requires { i < 16 }
     ensures { result ≡ be32_at block.now i }
 {
     let at = 4 * i;
-    be_word(block[at], block[at + 1], block[at + 2], block[at + 3])
+    u32::from_be_bytes([block[at], block[at + 1], block[at + 2], block[at + 3]])
 }
 
 // Words from..to of the schedule read from the block, each stepped as soon as it is there: a schedule filled
-// beforehand costs half as much time again. The array comes as a slice: lending it as one is what tells its length.
-fn begin(from: usize, to: usize, start: Regs, w: &mut [u32], block: &[u8]) -> Regs
-    requires { (from ≤ to) × (to ≤ 16) × (length w.old ≡ 80) × (length block.now ≡ 64) }
+// beforehand costs half as much time again.
+fn begin(from: usize, to: usize, start: Regs, w: &mut [u32; 80], block: &[u8; 64]) -> Regs
+    requires { (from ≤ to) × (to ≤ 16) }
     ensures { Onward (words_of block.now) from to w.old start w.new result }
 {
     let mut s = start;
@@ -64,8 +63,7 @@ fn extend(from: usize, to: usize, start: Regs, w: &mut [u32; 80]) -> Regs
 
 // Steps 0 to 39 with the schedule kept. Only `compression_states` calls it: with a second caller it would not be
 // inlined, and every block would pay for clearing the array and for passing it through memory.
-fn first_forty(h: Regs, block: &[u8], w: &mut [u32; 80]) -> Regs
-    requires { length block.now ≡ 64 }
+fn first_forty(h: Regs, block: &[u8; 64], w: &mut [u32; 80]) -> Regs
     ensures { Stage (words_of block.now) h 40 w.new result }
 {
     let s8 = begin(0, 8, h, w, block);
@@ -76,8 +74,7 @@ fn first_forty(h: Regs, block: &[u8], w: &mut [u32; 80]) -> Regs
 }
 
 // The chaining words after a block, for detection off.
-pub fn compression_plain(h: Regs, block: &[u8]) -> Regs
-    requires { length block.now ≡ 64 }
+pub fn compression_plain(h: Regs, block: &[u8; 64]) -> Regs
     ensures { result ≡ compress_of h block.now }
 {
     let mut w = [0u32; 80];
@@ -94,8 +91,7 @@ pub fn compression_plain(h: Regs, block: &[u8]) -> Regs
 }
 
 // The chaining words after a block with the states 58 and 65, and the block's schedule written to w.
-pub fn compression_states(h: Regs, block: &[u8], w: &mut [u32; 80]) -> States
-    requires { length block.now ≡ 64 }
+pub fn compression_states(h: Regs, block: &[u8; 64], w: &mut [u32; 80]) -> States
     ensures { (w.new ≡ schedule_of (words_of block.now)) × (result ≡ states_of h (schedule_of (words_of block.now))) }
 {
     let s40 = first_forty(h, block, w);

@@ -1,16 +1,16 @@
 // What the programs that run the library read: files, and cases written as text, a line each, with a space between fields.
 #![tactic(auto)]
 
-ghost use Rattle.std.specs.Prelude.{◌≡◌, ◌≤◌, ◌<◌, IfOk, OnErr, length, take};
-ghost use Rattle.std.specs.Counts.{IsPrefixLen};
+ghost use Rattle.std.specs.Prelude.{◌≡◌, ◌==◌, ℕ, ◌<◌, IfOk, length, take, vec_len};
+ghost use Rattle.std.specs.List.{count_by};
 ghost use Rattle.stream.specs.Fold.{mode_of};
-ghost use Rattle.cases.specs.Lines.{field_end, line_end, one_if, occurrences, found_at, place_after, start_of, field_of, from_field, line_at};
-ghost use Rattle.cases.specs.Numbers.{with_digit, decimal_value, number_at, word_field, flags_of_bits};
+ghost use Rattle.cases.specs.Lines.{field_end, field_of, from_field};
+ghost use Rattle.cases.specs.Numbers.{number_at, word_field, flags_of_bits};
 
 use detect::Mode;
-use flags::Flags;
-use printing::say;
-use std::io::{Read, Write};
+use flags::{Flags, Masks};
+use std::alloc::Global;
+use std::io::{BufWriter, Printer, Read, Write};
 use std::rt::Files;
 use std::{fs, io};
 
@@ -21,138 +21,45 @@ pub const MOST_TABLE: usize = 2706;
 
 pub const MOST_CONDITION_WORDS: usize = 3078;
 
-// The first place of a byte, not before `from`; the end where there is none.
-fn find(s: &[u8], from: usize, b: u8) -> usize
-    requires { from ≤ length s.now }
-    ensures value { result ≡ found_at s.now from b }
-    ensures lower_bound { (from ≤ result) × (result ≤ length s.now) }
-{
-    for i in from..s.len() {
-        if s[i] == b {
-            return i;
-        }
-    }
-    s.len()
-}
-
-// The place after one that was found; the end stays the end.
-fn after(s: &[u8], at: usize) -> usize
-    ensures value { result ≡ place_after s.now at }
-    ensures upper_bound { result ≤ length s.now }
-{
-    if at < s.len() {
-        return at + 1;
-    }
-    s.len()
-}
-
-// 1 where two bytes are equal, else 0.
-fn one_if(x: u8, b: u8) -> usize
-    ensures { (result ≡ one_if x b) × (result ≤ 1) }
-{
-    if x == b {
-        return 1;
-    }
-    0
-}
-
-// How many spaces a line has.
-pub fn spaces(line: &[u8]) -> usize
-    ensures { result ≡ occurrences field_end line.now }
-{
-    let mut n = 0;
-    for i in 0..line.len() {
-        n += one_if(line[i], b' ');
-    }
-    n
-}
-
-// Where field i starts: after the i-th space.
-fn start_of(line: &[u8], i: usize) -> usize
-    ensures value { result ≡ start_of line.now i }
-    ensures upper_bound { result ≤ length line.now }
-{
-    let mut at = 0;
-    for k in 0..i {
-        at = after(line, find(line, at, b' '));
-    }
-    at
-}
-
 // Field i of a line, empty where it has not so many.
-pub fn field(line: &[u8], i: usize) -> &[u8]
+pub fn field(line: &str, i: usize) -> &str
     ensures { result.now ≡ field_of line.now i }
 {
-    let from = start_of(line, i);
-    let to = find(line, from, b' ');
-    &line[from..to]
+    line.split(' ').nth(i).unwrap_or("")
 }
 
 // The line from field i to its end, which stands behind the i-th space: a case's name, which may have spaces of its own.
-pub fn from_field(line: &[u8], i: usize) -> &[u8]
+// A loop over `split_once`: of `splitn` std has no lemma that says its pieces as a list.
+#[tactic(auto, unfolding(crate::specs::Lines::from_field))]
+pub fn from_field(line: &str, i: usize) -> &str
     ensures { result.now ≡ from_field line.now i }
 {
-    let from = start_of(line, i);
-    &line[from..]
-}
-
-// What a title's line says.
-pub fn say_title<W: Write>(out: &mut W, line: &[u8]) -> io::Result<()> {
-    say(out, from_field(line, 1))?;
-    say(out, b"\n")
-}
-
-// The line that starts at a place of a text.
-pub fn line_at(text: &[u8], at: usize) -> &[u8]
-    requires { at ≤ length text.now }
-    ensures { result.now ≡ line_at text.now at }
-{
-    let end = find(text, at, b'\n');
-    &text[at..end]
-}
-
-// Where the next line starts: further on, at most at the end.
-pub fn next_line(text: &[u8], at: usize) -> usize
-    requires { at < length text.now }
-    ensures value { result ≡ place_after text.now (found_at text.now at line_end) }
-    ensures lower_bound { (at < result) × (result ≤ length text.now) }
-{
-    after(text, find(text, at, b'\n'))
-}
-
-fn wide(x: u8) -> usize
-    ensures { result ≡ x }
-{
-    x as usize
-}
-
-// A number with one more digit behind its last 18.
-fn with_digit(n: usize, digit: u8) -> usize
-    ensures { result ≡ with_digit n digit }
-{
-    10 * (n % 1000000000000000000) + wide(digit % 16)
-}
-
-// The number of some decimal digits.
-fn decimal(digits: &[u8]) -> usize
-    ensures { result ≡ decimal_value digits.now }
-{
-    let mut n = 0;
-    for i in 0..digits.len() {
-        n = with_digit(n, digits[i]);
+    let mut rest = line;
+    for passed in 0..i {
+        rest = match rest.split_once(' ') {
+            Some((_, behind)) => behind,
+            None => "",
+        };
     }
-    n
+    rest
 }
 
-// Field i as a number.
-pub fn number_at(line: &[u8], i: usize) -> usize
+// How many spaces a line has.
+pub fn spaces(line: &str) -> usize
+    ensures { result ≡ count_by (λ b. b == field_end) line.now }
+{
+    line.bytes().filter(|b| *b == b' ').count()
+}
+
+// Field i as a number, 0 where it is none.
+pub fn number_at(line: &str, i: usize) -> usize
     ensures { result ≡ number_at line.now i }
 {
-    decimal(field(line, i))
+    field(line, i).parse().unwrap_or(0)
 }
 
 // Field i as a word.
-pub fn word_field(line: &[u8], i: usize) -> u32
+pub fn word_field(line: &str, i: usize) -> u32
     ensures { result ≡ word_field line.now i }
 {
     (number_at(line, i) % 0x100000000) as u32
@@ -162,92 +69,73 @@ pub fn word_field(line: &[u8], i: usize) -> u32
 pub fn flags_of_bits(bits: usize) -> Flags
     ensures { result ≡ flags_of_bits bits }
 {
-    let f = Flags::new()
-        .detect_collision(bits % 2 == 1)
-        .safe_hash(bits / 2 % 2 == 1)
-        .use_ubc(bits / 4 % 2 == 1)
-        .reduced_round_collision(bits / 8 % 2 == 1);
-    if bits / 16 % 2 == 1 {
-        return f.use_conditions(true);
+    let has = |bit: usize| bits / bit % 2 == 1;
+    let masks = match (has(16), has(4)) {
+        (true, _) => Masks::Conditions,
+        (false, true) => Masks::Lent,
+        (false, false) => Masks::All,
+    };
+    Flags {
+        detect: has(1),
+        mitigate: has(2),
+        masks,
+        reduced: has(8),
     }
-    f
 }
 
-// Of the flags' bits a block is told two: 2 mitigate, 8 reduced-round.
+// What a block is told of the flags' bits.
 pub fn mode_of_bits(bits: usize) -> Mode
     ensures { result ≡ mode_of (flags_of_bits bits) }
 {
+    let flags = flags_of_bits(bits);
     Mode {
-        mitigate: bits / 2 % 2 == 1,
-        reduced: bits / 8 % 2 == 1,
+        mitigate: flags.mitigate,
+        reduced: flags.reduced,
     }
 }
 
-// The first n of some words, or all of them.
-pub fn front(t: &[u32], n: usize) -> &[u32]
-    ensures { result.now ≡ take n t.now }
+// The first n of some items, or all of them.
+pub fn front<T>(items: &[T], n: usize) -> &[T]
+    ensures { result.now ≡ take n items.now }
 {
-    if n <= t.len() {
-        return &t[0..n];
-    }
-    t
-}
-
-// The first n of some bytes, or all of them.
-pub fn front_bytes(t: &[u8], n: usize) -> &[u8]
-    ensures { result.now ≡ take n t.now }
-{
-    if n <= t.len() {
-        return &t[0..n];
-    }
-    t
+    items.get(..n).unwrap_or(items)
 }
 
 // 33 control records, each with its place as its mask number, and test step 58.
-fn controls() -> [u32; MOST_TABLE]
-    ensures { 2706 ≡ length result }
-{
+fn controls() -> [u32; MOST_TABLE] {
     let mut t = [0u32; MOST_TABLE];
-    for i in 0..33 {
-        t[82 * i] = i as u32;
-        t[82 * i + 1] = 58;
+    for (i, record) in t.chunks_exact_mut(82).enumerate() {
+        record[0] = i as u32;
+        record[1] = 58;
     }
     t
 }
 
 // 513 conditions, one more than a table of them may have. Each names one bit twice and wants it to differ from itself, so that it
 // drops the vectors with mask number 0 from every block.
-fn dropping() -> [u32; MOST_CONDITION_WORDS]
-    ensures { 3078 ≡ length result }
-{
+fn dropping() -> [u32; MOST_CONDITION_WORDS] {
     let mut t = [0u32; MOST_CONDITION_WORDS];
-    for k in 0..513 {
-        t[6 * k + 4] = 1;
-        t[6 * k + 5] = 1;
+    for condition in t.chunks_exact_mut(6) {
+        condition[4] = 1;
+        condition[5] = 1;
     }
     t
 }
 
-// One word changed, where there is one at the place.
-fn change(t: &mut [u32], at: usize, x: u32)
-    ensures { length t.new ≡ length t.old }
-{
-    if at < t.len() {
-        t[at] = x;
-    }
-}
-
-// Two words changed: fields i and i + 2 have their places, those behind them the words.
-fn change_two(t: &mut [u32], line: &[u8], i: usize)
+// Two words changed, where they are there: fields i and i + 2 have their places, those behind them the words.
+fn change_two(t: &mut [u32], line: &str, i: usize)
     requires { i < 32 }
     ensures { length t.new ≡ length t.old }
 {
-    change(t, number_at(line, i), word_field(line, i + 1));
-    change(t, number_at(line, i + 2), word_field(line, i + 3));
+    for k in [i, i + 2] {
+        if let Some(word) = t.get_mut(number_at(line, k)) {
+            *word = word_field(line, k + 1);
+        }
+    }
 }
 
 // 33 control records of which a case changes two words, by fields 2 to 5.
-pub fn records_of(line: &[u8]) -> [u32; MOST_TABLE]
+pub fn records_of(line: &str) -> [u32; MOST_TABLE]
     ensures { 2706 ≡ length result }
 {
     let mut t = controls();
@@ -256,7 +144,7 @@ pub fn records_of(line: &[u8]) -> [u32; MOST_TABLE]
 }
 
 // 513 conditions that drop mask number 0, of which a case changes two words, by the four fields from i on.
-pub fn conditions_of(line: &[u8], i: usize) -> [u32; MOST_CONDITION_WORDS]
+pub fn conditions_of(line: &str, i: usize) -> [u32; MOST_CONDITION_WORDS]
     requires { i < 32 }
     ensures { 3078 ≡ length result }
 {
@@ -265,64 +153,83 @@ pub fn conditions_of(line: &[u8], i: usize) -> [u32; MOST_CONDITION_WORDS]
     t
 }
 
-// Room for a text.
-pub fn page() -> [u8; MOST_TEXT]
-    ensures { 262144 ≡ length result }
-{
-    [0u8; MOST_TEXT]
-}
-
-// Reads until the buffer is full, the file ends or a read fails. How many bytes stand at the buffer's start now.
-fn read_full<F: Read>(file: &mut F, buf: &mut [u8]) -> usize
-    ensures { IsPrefixLen result buf.new }
-{
-    let mut done = 0;
-    while done < buf.len() {
-        match file.read(&mut buf[done..]) {
-            Ok(0) => return done,
-            Ok(n) => done += n,
-            Err(_) => return done,
-        }
-    }
-    done
-}
-
-// The file of a name, if there is one that can be read.
-fn opened<R: Files>(rt: &R, path: &[u8]) -> Option<R::File> {
-    match std::str::from_utf8(path) {
-        Ok(name) => fs::open(rt, name).ok(),
-        Err(_) => None,
-    }
-}
-
-// How many bytes of a file stand at the buffer's start now. Where nothing more can be written the buffer is as it was.
-pub fn read<R: Files, W: Write>(
-    rt: &R,
+// Gives each case of a text to `play`: `#` begins a comment, and `=` a title, which is written.
+pub fn each_case<W: Write, F: FnMut(&mut W, &str) -> io::Result<()>>(
+    text: &str,
     out: &mut W,
-    path: &[u8],
-    buf: &mut [u8],
-) -> io::Result<usize>
-    ensures ok { IfOk result (λ n. IsPrefixLen n buf.new) }
-    ensures err { OnErr result (buf.new ≡ buf.old) }
+    mut play: F,
+) -> io::Result<()>
+    requires { F.IsAlwaysCallable play }
 {
-    match opened(rt, path) {
-        Some(mut file) => Ok(read_full(&mut file, buf)),
-        None => {
-            say(out, b"no file\n")?;
-            Ok(0)
+    for line in text.lines() {
+        match field(line, 0) {
+            "" | "#" => {}
+            "=" => writeln!(out, "{}", from_field(line, 1))?,
+            _ => play(out, line)?,
         }
-    }
-}
-
-// Fills the buffer from a file, or says that it could not.
-pub fn fill_from<R: Files, W: Write>(
-    rt: &R,
-    out: &mut W,
-    path: &[u8],
-    buf: &mut [u8],
-) -> io::Result<()> {
-    if read(rt, out, path, buf)? < buf.len() {
-        say(out, b"short file\n")?;
     }
     Ok(())
+}
+
+// The first n bytes of a file, or all of them; where a read fails, those before it. Where no file of the name can be opened a line
+// says so, and there are none.
+fn file_front<R: Files + AllocGlobal, W: Write>(
+    rt: &R,
+    out: &mut W,
+    name: &str,
+    n: usize,
+) -> io::Result<Vec<u8>> {
+    let mut bytes = Vec::new(rt.alloc());
+    let Ok(file) = fs::open(rt, name) else {
+        writeln!(out, "no file")?;
+        return Ok(bytes);
+    };
+    let mut front = file.take(n as u64);
+    match front.read_to_end(&mut bytes) {
+        Err(e) if e.kind() == io::ErrorKind::OutOfMemory => Err(e),
+        _ => Ok(bytes),
+    }
+}
+
+// The first n bytes of a file. Where it has not so many a line says so, and there are zeros behind them.
+pub fn file_filling<R: Files + AllocGlobal, W: Write>(
+    rt: &R,
+    out: &mut W,
+    name: &str,
+    n: usize,
+) -> io::Result<Vec<u8>>
+    ensures { IfOk result (λ bytes. vec_len bytes ≡ n) }
+{
+    let mut bytes = file_front(rt, out, name, n)?;
+    if bytes.len() < n {
+        writeln!(out, "short file")?;
+    }
+    bytes.resize(n, 0)?;
+    Ok(bytes)
+}
+
+// The text of a file; of a longer one than there may be, the front. Where there is no file a line says so, and the text is empty.
+pub fn file_text<R: Files + AllocGlobal, W: Write>(
+    rt: &R,
+    out: &mut W,
+    name: &str,
+) -> io::Result<String> {
+    let bytes = file_front(rt, out, name, MOST_TEXT)?;
+    String::from_utf8(bytes).map_err(|_| io::Error::from(io::ErrorKind::InvalidData))
+}
+
+// Gives each case of a file to `play`, which writes to the standard output.
+pub fn play_cases<'a, R: Files + AllocGlobal + Print, F>(
+    rt: &'a R,
+    name: &str,
+    play: F,
+) -> io::Result<()>
+where
+    F: FnMut(&mut BufWriter<Printer<'a, R>, Global>, &str) -> io::Result<()>,
+    requires { F.IsAlwaysCallable play }
+{
+    let mut out = BufWriter::new(rt.alloc(), io::writer(rt))?;
+    let text = file_text(rt, &mut out, name)?;
+    each_case(&text, &mut out, play)?;
+    out.flush()
 }

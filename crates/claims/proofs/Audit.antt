@@ -3,15 +3,14 @@ use mathlib.Core.Path.{◌≡◌, sym, ap, ◌∙◌}
 use mathlib.Core.Bool.{true≢false}
 use mathlib.Core.List.{List}
 use Prim.Native.Nat.{ℕ}
+use Rattle.std.specs.Prelude.{Ok as Done, Ok as Said}
 use Rattle.verdict.specs.declared.Verdict.{Verdict}
 use Rattle.verdict.specs.declared.Verdict.TheVariants.{Ok}
 use Rattle.flags.specs.declared.Flags.{Flags}
 use Rattle.loan.specs.Loan.{Tables}
-use Rattle.finish.specs.declared.Outcome.TheVariants.{Done}
 use Rattle.sheet.specs.Exactly.{Accepted, FirstRecord}
 use Rattle.comparison.specs.Compare.{compared_of}
 use Rattle.comparison.specs.declared.Comparison.TheVariants.{Match, Differs, Marked}
-use Rattle.comparison.specs.declared.Compared.TheVariants.{Said}
 use Rattle.comparison.proofs.Exactly.{match-exactly, differs-exactly, answer-marked-exactly}
 use Rattle.claims.specs.Pieces.{Piece, bytes_of, hashed, loan_of_all, NoneRefused}
 use Rattle.claims.specs.Marked.{NoneMarked, OneMarked}

@@ -10,10 +10,10 @@ use borrow.Author.Tests.{eq-eqb, leb-true}
 use lib.Bits.{and_comm, and_mask}
 use lib.Dec.{eqb, leb}
 use lib.ListN.{length, take, drop, length-append}
+use Rattle.std.specs.Prelude.{Err, Ok}
 use Rattle.word.specs.Choice.{pick}
-use Rattle.refusal.specs.Refusal.{first_of}
-use Rattle.refusal.specs.declared.Refusal.{Refusal}
-use Rattle.refusal.specs.declared.Refusal.TheVariants.{Nothing, MaskCount}
+use Rattle.refusal.specs.Refusal.{first_of, Checked}
+use Rattle.refusal.specs.declared.Refusal.TheVariants.{MaskCount}
 use Rattle.octets.specs.Octets.{bytes64}
 use Rattle.block.specs.Schedule.{words_of, schedule_of}
 use Rattle.table.specs.Limits.{mask_bits}
@@ -38,8 +38,7 @@ use Rattle.hasher.specs.declared.Hasher.{Hasher}
 use Rattle.absorb.specs.Absorb.{stream_of}
 use Rattle.update.specs.Update.{blocks_filled, updated}
 use Rattle.finish.specs.Finish.{finished, finished_reset, written_out}
-use Rattle.one_shot.specs.Whole.{blocks_of, whole_refusal, whole_of}
-use Rattle.one_shot.specs.declared.Digested.{Digested}
+use Rattle.one_shot.specs.Whole.{blocks_of, whole_refusal, whole_of, WholeAccount}
 use Rattle.claims.specs.Pieces.{Piece, bytes_of, piece_masks, hashed, loan_of_all, NoneRefused, InTurn}
 use Rattle.claims.specs.Marked.{blocks_in}
 use Rattle.claims.specs.Settings.{masks_on, conditions_on, surviving_masks, surviving_bits, surviving_blocks, surviving_last, message_masks}
@@ -88,9 +87,9 @@ by-detection true mode table conditions masks m n c xs h = blocks-agree mode tab
 by-detection false mode table conditions masks m n c xs h = refl
 
 -- what is refused: neither a number of masks, nor conditions that pass
-refused-alike : (on : Bool) (fault vectors : Refusal) (j k n : ℕ) → k ≡ n → ((on && true) ≡ true → fault ≡ Nothing)
-    → pick ((on && false) && not (eqb j n)) MaskCount (pick (eqb n 0) Nothing (first_of (pick (on && true) fault Nothing) vectors))
-    ≡ pick ((on && true) && not (eqb k n)) MaskCount (pick (eqb n 0) Nothing (first_of (pick (on && false) fault Nothing) vectors))
+refused-alike : (on : Bool) (fault vectors : Checked) (j k n : ℕ) → k ≡ n → ((on && true) ≡ true → fault ≡ (Ok tt))
+    → pick ((on && false) && not (eqb j n)) (Err MaskCount) (pick (eqb n 0) (Ok tt) (first_of (pick (on && true) fault (Ok tt)) vectors))
+    ≡ pick ((on && true) && not (eqb k n)) (Err MaskCount) (pick (eqb n 0) (Ok tt) (first_of (pick (on && false) fault (Ok tt)) vectors))
 refused-alike true fault vectors j k n e g = rw (eq-eqb k n e, g refl)
 refused-alike false fault vectors j k n e g = refl
 
@@ -178,7 +177,7 @@ module _ (f : Flags) (t : Tables) (ps qs : List Piece) (last rest : List ℕ) (o
       (rw (same, lent) (sym (surviving-refusal f (bytes_of ps) (loan_of_all t ps last) passes) ∙ whole-taken (with_masks f Conditions) t ps last ok))
 
   module _ (taken-too : NoneRefused (with_masks f Lent) t qs rest) where
-    answers : ◌≡◌ {A = Digested}
+    answers : ◌≡◌ {A = WholeAccount}
         (record { outcome = (hashed (with_masks f Conditions) t ps last).outcome; digest = (hashed (with_masks f Conditions) t ps last).digest; first = (hashed (with_masks f Conditions) t ps last).first })
         (record { outcome = (hashed (with_masks f Lent) t qs rest).outcome; digest = (hashed (with_masks f Lent) t qs rest).digest; first = (hashed (with_masks f Lent) t qs rest).first })
     answers =
@@ -189,4 +188,4 @@ module _ (f : Flags) (t : Tables) (ps qs : List Piece) (last rest : List ℕ) (o
     pub message-surviving : ((hashed (with_masks f Conditions) t ps last).outcome ≡ (hashed (with_masks f Lent) t qs rest).outcome)
         × ((hashed (with_masks f Conditions) t ps last).digest ≡ (hashed (with_masks f Lent) t qs rest).digest)
         × ((hashed (with_masks f Conditions) t ps last).first ≡ (hashed (with_masks f Lent) t qs rest).first)
-    message-surviving = (ap (λ (d : Digested). d.outcome) answers, ap (λ (d : Digested). d.digest) answers, ap (λ (d : Digested). d.first) answers)
+    message-surviving = (ap (λ (d : WholeAccount). d.outcome) answers, ap (λ (d : WholeAccount). d.digest) answers, ap (λ (d : WholeAccount). d.first) answers)

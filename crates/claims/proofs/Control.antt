@@ -9,9 +9,11 @@ use native.Mathlib.Omega.{arith}
 use borrow.Author.Tests.{lt-ltb}
 use lib.Dec.{lit<}
 use lib.ListN.{replicate}
+use Rattle.search.specs.Search.{is_marked}
+use Rattle.std.specs.Prelude.{is_ok}
 use Rattle.word.specs.Word.{rotl}
 use Rattle.word.specs.Lists.{AllWords}
-use Rattle.refusal.specs.Refusal.{is_nothing, first_from}
+use Rattle.refusal.specs.Refusal.{first_from}
 use Rattle.refusal.proofs.Chains.{nothing_is}
 use Rattle.step.specs.Step.{Words}
 use Rattle.step.specs.declared.Regs.{Regs}
@@ -38,7 +40,7 @@ pub control-obeys : obeys (replicate dm_words 0) ≡ true
 unfolding obeys_from rotl
 control-obeys = refl
 
-no-fault : (k t : ℕ) → k < mask_bits → (t ≡ 58) ⊎ (t ≡ 65) → is_nothing (table_fault (control_table k t)) ≡ true
+no-fault : (k t : ℕ) → k < mask_bits → (t ≡ 58) ⊎ (t ≡ 65) → is_ok (table_fault (control_table k t)) ≡ true
 unfolding table_fault first_from record_fault repeat_fault among
 no-fault k t l =
     ⊎_elim (λ e. rw (e, lt-ltb k mask_bits l, control-obeys)) (λ e. rw (e, lt-ltb k mask_bits l, control-obeys))
@@ -64,7 +66,7 @@ module _ (mode : Mode) (k t : ℕ) (below : k < mask_bits) (i p j q wanted clear
   chosen : (selects selection (control_table k t) 0 ≡ true) ↔ ((has_bit all_bits k ≡ true) × AllHoldOf (one_condition i p j q wanted clears) block k)
   chosen = selected-exactly (one_condition i p j q wanted clears) block all_bits k words below
 
-  pub control-conditioned : ((answer_of mode (control_table k t) h block selection).found.mark ≡ true)
+  pub control-conditioned : (is_marked (answer_of mode (control_table k t) h block selection).found ≡ true)
       ↔ (holds_at (schedule_of (words_of block)) (one_condition i p j q wanted clears) 0 ≡ true)
   control-conditioned = (
     λ m.

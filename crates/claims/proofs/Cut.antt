@@ -3,8 +3,7 @@ use mathlib.Core.Path.{◌≡◌, refl, sym, ap, ◌∙◌}
 use mathlib.Core.Bool.{true}
 use mathlib.Core.List.{List, [], ◌∷◌}
 use Prim.Native.Nat.{ℕ}
-use Rattle.refusal.specs.Refusal.{is_nothing}
-use Rattle.refusal.specs.declared.Refusal.TheVariants.{Nothing}
+use Rattle.std.specs.Prelude.{Ok, is_ok, Ok as Done}
 use Rattle.word.proofs.Tests.{of_either}
 use Rattle.verdict.specs.Verdict.{verdict_of}
 use Rattle.verdict.specs.declared.Verdict.{Verdict}
@@ -16,7 +15,6 @@ use Rattle.hasher.specs.Hasher.{well_formed}
 use Rattle.hasher.specs.declared.Hasher.{Hasher}
 use Rattle.update.specs.Update.{update_refusal, updated}
 use Rattle.update.proofs.Taken.{update-taken, taken-update}
-use Rattle.finish.specs.declared.Outcome.TheVariants.{Done}
 use Rattle.claims.specs.Sound.{Sized}
 use Rattle.claims.specs.Pieces.{Piece, bytes_of, piece_masks, piecewise, hashed, block_masks, NoneRefused, Counted}
 use Rattle.claims.specs.Marked.{marked_by, again_by, whole_blocks}
@@ -29,7 +27,7 @@ use Rattle.claims.proofs.Whole.{hashed-is}
 
 module _ (h : Hasher) (size : Sized h) (t : Tables) where
   -- Updates piece by piece, none refused, give the same hasher and refusal as one update with everything joined.
-  pub cut-joined : (p : Piece) (ps : List Piece) → (piecewise h t (p ∷ ps)).refusal ≡ Nothing
+  pub cut-joined : (p : Piece) (ps : List Piece) → (piecewise h t (p ∷ ps)).refusal ≡ Ok tt
       → piecewise h t (p ∷ ps) ≡ updated h (bytes_of (p ∷ ps)) (lend t (piece_masks (p ∷ ps)))
   cut-joined p ps e =
       let a = pieces-taken p ps h t size e in
@@ -37,7 +35,7 @@ module _ (h : Hasher) (size : Sized h) (t : Tables) where
 
   -- What one update takes can be cut anywhere: with each block's mask in its turn no piece is refused.
   pub cut-anywhere : (p : Piece) (ps : List Piece) → (uses_masks h.flags ≡ true → Counted h.fill (p ∷ ps))
-      → (updated h (bytes_of (p ∷ ps)) (lend t (piece_masks (p ∷ ps)))).refusal ≡ Nothing
+      → (updated h (bytes_of (p ∷ ps)) (lend t (piece_masks (p ∷ ps)))).refusal ≡ Ok tt
       → piecewise h t (p ∷ ps) ≡ updated h (bytes_of (p ∷ ps)) (lend t (piece_masks (p ∷ ps)))
   cut-anywhere p ps counts e =
       let a = update-taken h (bytes_of (p ∷ ps)) (lend t (piece_masks (p ∷ ps))) e in
@@ -48,7 +46,7 @@ module _ (h : Hasher) (size : Sized h) (t : Tables) where
   pub cut-none : well_formed h ≡ true → (l : Loan) → (updated h [] l).hasher ≡ (piecewise h t []).hasher
   unfolding updated piecewise
   cut-none well l =
-      of_either (λ (g : Hasher). g ≡ h) (is_nothing (update_refusal h [] l)) _ h (absorb-none h size well l) refl
+      of_either (λ (g : Hasher). g ≡ h) (is_ok (update_refusal h [] l)) _ h (absorb-none h size well l) refl
 
 -- Two cuts of one message, its masks in the same order and no call refused, end alike.
 pub cut-alike : (f : Flags) (t : Tables) (ps qs : List Piece) (last rest : List ℕ) → NoneRefused f t ps last → NoneRefused f t qs rest

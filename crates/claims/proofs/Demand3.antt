@@ -6,10 +6,11 @@ use mathlib.Core.Bool.{Bool, true, false, ◌&&◌, ◌||◌, false≢true}
 use mathlib.Core.List.{List}
 use Prim.Native.Nat.{ℕ, ◌+◌, ◌*◌}
 use lib.ListN.{drop}
+use Rattle.search.specs.Search.{is_marked}
+use Rattle.std.specs.Prelude.{Ok}
 use Rattle.word.specs.Lists.{AllWords, AllBytes}
 use Rattle.word.proofs.Below.{take_below, drop-below}
 use Rattle.refusal.specs.Refusal.{number_of}
-use Rattle.refusal.specs.declared.Refusal.TheVariants.{Nothing}
 use Rattle.step.specs.Step.{steps_of, undos_of, same_regs, Words, regs_of}
 use Rattle.step.specs.declared.Regs.{Regs}
 use Rattle.step.proofs.Runs.{steps-words, undos-words, steps-undos, undos-steps}
@@ -121,7 +122,7 @@ module _ (h : Regs) (block table : List ℕ) (hw : Words h) (bytes : AllBytes bl
   module _ (mode : Mode) (mask : ℕ) (good : GoodTable table) where
     -- In any mode a block is marked exactly when by a selected record the sibling meets it or, in reduced-round mode only,
     -- reaches its state at the test step from its own start.
-    pub marked-in-exactly : ((answer_of mode table h block mask).found.mark ≡ true) ↔ MetIn mode.reduced h block table mask
+    pub marked-in-exactly : (is_marked (answer_of mode table h block mask).found ≡ true) ↔ MetIn mode.reduced h block table mask
     unfolding answer_of
     marked-in-exactly =
         let e = found-ended mode.reduced table h (schedule_of (words_of block)) mask in (
@@ -133,18 +134,18 @@ module _ (h : Regs) (block table : List ℕ) (hw : Words h) (bytes : AllBytes bl
 
     -- With reduced-round mode off it is marked exactly when for a selected record a start exists from which the sibling block
     -- reaches the block's own state at the test step and ends in the block's output before mitigation.
-    pub marked-exactly : mode.reduced ≡ false → ((answer_of mode table h block mask).found.mark ≡ true) ↔ Met h block table mask
+    pub marked-exactly : mode.reduced ≡ false → (is_marked (answer_of mode table h block mask).found ≡ true) ↔ Met h block table mask
     marked-exactly off = Iff.trans marked-in-exactly (met-only h block table mask mode.reduced off)
 
 -- The one-block entry, where it refuses nothing, marks exactly then.
 module _ (five block table : List ℕ) (mask : ℕ) (mode : Mode) (words : AllWords five) (bytes : AllBytes block) (all : AllWords table) where
-  pub entry-marked-in-exactly : (one_block_of five block table mask mode).refusal ≡ Nothing
-      → ((one_block_of five block table mask mode).found.mark ≡ true) ↔ MetIn mode.reduced (regs_of five) block table mask
+  pub entry-marked-in-exactly : (one_block_of five block table mask mode).refusal ≡ Ok tt
+      → (is_marked (one_block_of five block table mask mode).found ≡ true) ↔ MetIn mode.reduced (regs_of five) block table mask
   entry-marked-in-exactly ok =
       let five-words : Words (regs_of five) = record { a_lt = words 0; b_lt = words 1; c_lt = words 2; d_lt = words 3; e_lt = words 4 } in
       rw (block-answered five block table mask mode ok)
       (marked-in-exactly (regs_of five) block table five-words bytes all mode mask ((block_0 five block table mask mode).0 (ap number_of ok)).1)
 
-  pub entry-marked-exactly : mode.reduced ≡ false → (one_block_of five block table mask mode).refusal ≡ Nothing
-      → ((one_block_of five block table mask mode).found.mark ≡ true) ↔ Met (regs_of five) block table mask
+  pub entry-marked-exactly : mode.reduced ≡ false → (one_block_of five block table mask mode).refusal ≡ Ok tt
+      → (is_marked (one_block_of five block table mask mode).found ≡ true) ↔ Met (regs_of five) block table mask
   entry-marked-exactly off ok = Iff.trans (entry-marked-in-exactly ok) (met-only (regs_of five) block table mask mode.reduced off)

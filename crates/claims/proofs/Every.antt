@@ -5,10 +5,11 @@ use mathlib.Core.List.{List}
 use Prim.Native.Nat.{ℕ, ◌%◌, ◌≤◌}
 use native.Mathlib.Omega.{arith}
 use lib.ListN.{length}
+use Rattle.finish.specs.Finish.{FinishAccount, Outcome}
+use Rattle.std.specs.Prelude.{Ok, Ok as Done}
 use Rattle.word.proofs.Tests.{unless-true}
-use Rattle.refusal.specs.declared.Refusal.TheVariants.{Nothing}
 use Rattle.verdict.specs.Verdict.{digest_size}
-use Rattle.verdict.specs.declared.Verdict.TheVariants.{Ok}
+use Rattle.verdict.specs.declared.Verdict.TheVariants.{Ok as OkVerdict}
 use Rattle.fips.specs.Fips.{most_bytes, padded, sha1}
 use Rattle.fips.specs.Tail.{tail_blocks}
 use Rattle.flags.specs.Flags.{is_lent, is_conditions, uses_masks}
@@ -21,9 +22,6 @@ use Rattle.stream.specs.Fold.{nowhere, first_chain}
 use Rattle.stream.specs.declared.FirstMark.{FirstMark}
 use Rattle.hasher.specs.Hasher.{fresh_of}
 use Rattle.hasher.specs.declared.Hasher.{Hasher}
-use Rattle.finish.specs.declared.Finished.{Finished}
-use Rattle.finish.specs.declared.Outcome.{Outcome}
-use Rattle.finish.specs.declared.Outcome.TheVariants.{Done}
 use Rattle.finish.proofs.Finishing.{finishing-finish}
 use Rattle.claims.specs.Pieces.{Piece, bytes_of, taking, hashed, block_masks, NoneRefused, InTurn}
 use Rattle.claims.specs.Marked.{blocks_in}
@@ -39,13 +37,13 @@ use Rattle.claims.proofs.Verdicts.{ok-exactly}
 unasked : (asks : Masks → Bool) (f : Flags) (masks : Masks) → asks masks ≡ false → f.masks ≡ masks → (f.detect && asks f.masks) ≡ true → ⊥
 unasked asks f masks off e u = false≢true (sym (and-false f.detect) ∙ (rw (e, off) at u))
 
-same-finished : (r : Finished) {o : Outcome} {d : List ℕ} {m : FirstMark} {h : Hasher} → r.outcome ≡ o → r.digest ≡ d → r.first ≡ m → r.hasher ≡ h
+same-finished : (r : FinishAccount) {o : Outcome} {d : List ℕ} {m : FirstMark} {h : Hasher} → r.outcome ≡ o → r.digest ≡ d → r.first ≡ m → r.hasher ≡ h
     → r ≡ record { outcome = o; digest = d; first = m; hasher = h }
 same-finished r p q m s = rw (← p, ← q, ← m, ← s)
 
 module _ (f : Flags) (t : Tables) (ps : List Piece) (last : List ℕ) (short : length (bytes_of ps) ≤ most_bytes) where
   -- No cut of a message of at most 2^61-1 bytes is refused where the tables are good and each block's mask is lent in its turn, if they are looked at.
-  pub none-refused : tables_refusal f t ≡ Nothing → (uses_masks f ≡ true → InTurn ps last) → NoneRefused f t ps last
+  pub none-refused : tables_refusal f t ≡ (Ok tt) → (uses_masks f ≡ true → InTurn ps last) → NoneRefused f t ps last
   none-refused good turn =
       let r : Fitting (fresh_of f) t ps = record { sound = fresh-sound f; good = λ some. good; counts = λ u. (turn u).updates } in
       let e = pieces-pass ps (fresh_of f) t r (omega arith) in
@@ -82,11 +80,11 @@ module _ (f : Flags) (t : Tables) (ps : List Piece) (last : List ℕ) (short : l
 
   -- With detection off the verdict is ok and the digest FIPS 180-4's, for every message of at most 2^61-1 bytes under every cut, whatever is lent.
   pub every-message : f.detect ≡ false
-      → hashed f t ps last ≡ record { outcome = Done Ok; digest = sha1 (bytes_of ps); first = nowhere; hasher = (taking f t ps).hasher }
+      → hashed f t ps last ≡ record { outcome = Done OkVerdict; digest = sha1 (bytes_of ps); first = nowhere; hasher = (taking f t ps).hasher }
   every-message off =
       let ok = none-refused-off off in
       same-finished (hashed f t ps last) ((ok-exactly f t ps last ok).1 (λ i l. rw off)) (fips-undetected f t ps last ok off)
-      (ap (λ (r : Finished). r.first) (hashed-is f t ps last ok) ∙ first-left f t first_chain (padded (bytes_of ps)) (block_masks f ps last) refl (blocks_in (bytes_of ps)) (λ i l. rw off))
+      (ap (λ (r : FinishAccount). r.first) (hashed-is f t ps last ok) ∙ first-left f t first_chain (padded (bytes_of ps)) (block_masks f ps last) refl (blocks_in (bytes_of ps)) (λ i l. rw off))
       (finish-keeps _ (lend t last))
 
 -- With conditions every cut of a message of at most 2^61-1 bytes ends alike, with one table of conditions throughout and whatever masks are lent.

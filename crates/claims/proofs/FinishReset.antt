@@ -3,7 +3,7 @@ use mathlib.Core.Path.{◌≡◌}
 use mathlib.Core.List.{List}
 use Prim.Native.Nat.{ℕ}
 use lib.ListN.{length}
-use Rattle.refusal.specs.declared.Refusal.TheVariants.{Nothing}
+use Rattle.std.specs.Prelude.{Ok}
 use Rattle.verdict.specs.Verdict.{digest_size}
 use Rattle.loan.specs.Loan.{Loan}
 use Rattle.hasher.specs.Hasher.{reset_of}
@@ -24,11 +24,11 @@ module _ (h : Hasher) (out : List ℕ) (l : Loan) (size : length out ≡ digest_
   finish-reset-first = rw size
 
   -- Where it is not refused, the bytes written are the finish's digest.
-  pub finish-reset-writes : finish_refusal h digest_size l ≡ Nothing → written_out h out l ≡ (finished h l).digest
+  pub finish-reset-writes : finish_refusal h digest_size l ≡ (Ok tt) → written_out h out l ≡ (finished h l).digest
   unfolding written_out finished
   finish-reset-writes e = rw (size, e)
 
   -- And the hasher is that of a reset.
-  pub finish-reset-resets : finish_refusal h digest_size l ≡ Nothing → (finished_reset h (length out) l).hasher ≡ (reset_of h).hasher
+  pub finish-reset-resets : finish_refusal h digest_size l ≡ (Ok tt) → (finished_reset h (length out) l).hasher ≡ (reset_of h).hasher
   unfolding finished_reset
   finish-reset-resets e = rw (size, e, reset-restores h (finish-finishing h digest_size l e).well)

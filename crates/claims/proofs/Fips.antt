@@ -3,11 +3,11 @@ use mathlib.Core.Path.{◌≡◌, ap, ◌∙◌}
 use mathlib.Core.Bool.{Bool, true, false, ◌&&◌, and-true, and-false}
 use mathlib.Core.List.{List}
 use Prim.Native.Nat.{ℕ, ◌<◌}
+use Rattle.finish.specs.Finish.{FinishAccount}
 use Rattle.step.specs.declared.Regs.{Regs}
 use Rattle.fips.specs.Fips.{padded, initial, digest_of, sha1}
 use Rattle.flags.specs.declared.Flags.{Flags}
 use Rattle.loan.specs.Loan.{Tables}
-use Rattle.finish.specs.declared.Finished.{Finished}
 use Rattle.claims.specs.Pieces.{Piece, bytes_of, hashed, loan_of_all, block_masks, NoneRefused}
 use Rattle.claims.specs.Marked.{marked_by, again_by, blocks_in, sha1_marked, marked_at, NoneMarked}
 use Rattle.claims.proofs.Unmarked.{at_block, hash-plain, hash-same}
@@ -15,7 +15,7 @@ use Rattle.claims.proofs.Whole.{hashed-is}
 
 module _ (f : Flags) (t : Tables) (ps : List Piece) (last : List ℕ) (ok : NoneRefused f t ps last) where
   digest-is : (hashed f t ps last).digest ≡ sha1_marked (again_by f t) (bytes_of ps) (block_masks f ps last)
-  digest-is = ap (λ (r : Finished). r.digest) (hashed-is f t ps last ok)
+  digest-is = ap (λ (r : FinishAccount). r.digest) (hashed-is f t ps last ok)
 
   -- the standard's digest, where no block is compressed again
   once : ((i : ℕ) → i < blocks_in (bytes_of ps) → at_block (again_by f t) (again_by f t) initial (padded (bytes_of ps)) (block_masks f ps last) i ≡ false)

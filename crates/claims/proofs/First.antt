@@ -7,9 +7,9 @@ use Prim.Native.Nat.{ℕ, ◌%◌}
 use native.Mathlib.Nat.{zero-add}
 use native.Mathlib.Omega.{arith}
 use lib.ListN.{length}
+use Rattle.std.specs.Prelude.{Ok}
 use Rattle.word.specs.Lists.{AllBytes}
-use Rattle.refusal.specs.declared.Refusal.{Refusal}
-use Rattle.refusal.specs.declared.Refusal.TheVariants.{Nothing}
+use Rattle.refusal.specs.Refusal.{Checked}
 use Rattle.verdict.specs.Verdict.{digest_size}
 use Rattle.fips.specs.Fips.{padding_for, padded, initial}
 use Rattle.fips.proofs.Padded.{tail-is}
@@ -18,9 +18,8 @@ use Rattle.flags.specs.declared.Flags.{Flags}
 use Rattle.loan.specs.Loan.{Tables, Loan, lend}
 use Rattle.stream.specs.Fold.{nowhere, first_chain, folded}
 use Rattle.stream.specs.declared.FirstMark.{FirstMark}
-use Rattle.hasher.specs.Hasher.{well_formed, taken, chain_of, fresh_of, reset_of}
+use Rattle.hasher.specs.Hasher.{well_formed, taken, chain_of, fresh_of, reset_of, UpdateAccount}
 use Rattle.hasher.specs.declared.Hasher.{Hasher}
-use Rattle.hasher.specs.declared.Updated.{Updated}
 use Rattle.hasher.proofs.Formed.{formed}
 use Rattle.absorb.specs.Absorb.{stream_of}
 use Rattle.absorb.proofs.Moves.{absorbed-is}
@@ -28,8 +27,7 @@ use Rattle.update.specs.Update.{updated}
 use Rattle.update.proofs.Taken.{update-taken, taken-update}
 use Rattle.finish.specs.Finish.{last_chain, finish_refusal, finished, finished_reset}
 use Rattle.finish.proofs.Finishing.{finish-finishing}
-use Rattle.one_shot.specs.Whole.{whole_refusal, whole_chain, whole_of, digested}
-use Rattle.one_shot.specs.declared.Digested.{Digested}
+use Rattle.one_shot.specs.Whole.{whole_refusal, whole_chain, whole_of, digested, WholeAccount}
 use Rattle.in_place.specs.InPlace.{InPlace}
 use Rattle.claims.specs.Sound.{Sized, Typed, TypedVectors, TypedConditions, PassFor}
 use Rattle.claims.specs.Pieces.{Piece, bytes_of, piece_masks, piecewise, taking, hashed, loan_of_all, NoneRefused}
@@ -73,28 +71,28 @@ to-selected h l xs conditions fine = call_same (same-selected h.flags l _ xs con
 module _ (h : Hasher) (l : Loan) where
   -- After an update that is not refused a hasher that was marked has its own numbers; else it has, exactly then, the number of the first marked
   -- block that the update fills and the place of the first selected record that marks it, and zeros where none is marked.
-  pub update-told : (bytes : List ℕ) → (updated h bytes l).refusal ≡ Nothing → CallMarked h l (stream_of h bytes) (updated h bytes l).hasher.first
+  pub update-told : (bytes : List ℕ) → (updated h bytes l).refusal ≡ (Ok tt) → CallMarked h l (stream_of h bytes) (updated h bytes l).hasher.first
   update-told bytes e =
       let a = update-taken h bytes l e in
       let m : (updated h bytes l).hasher.first ≡ (folded h.flags l (chain_of h) (stream_of h bytes)).first =
-      ap (λ (u : Updated). u.hasher.first) (taken-update h bytes l a) ∙ ap (λ (g : Hasher). g.first) (absorbed-is h bytes l)
+      ap (λ (u : UpdateAccount). u.hasher.first) (taken-update h bytes l a) ∙ ap (λ (g : Hasher). g.first) (absorbed-is h bytes l)
       in
       subst (CallMarked h l (stream_of h bytes)) (sym m) (call-told h l (stream_of h bytes) a.well)
 
   -- So has the hasher that an update in place leaves.
-  pub in-place-told : (bytes : List ℕ) (r : Refusal) (g : Hasher) → InPlace h bytes l r g → r ≡ Nothing → CallMarked h l (stream_of h bytes) g.first
+  pub in-place-told : (bytes : List ℕ) (r : Checked) (g : Hasher) → InPlace h bytes l r g → r ≡ (Ok tt) → CallMarked h l (stream_of h bytes) g.first
   in-place-told bytes r g p e =
       subst (λ (k : Hasher). CallMarked h l (stream_of h bytes) k.first) (sym p.0) (update-told bytes (sym p.1 ∙ e))
 
   -- the tables of an update, and of a finish, that is not refused
-  update-fine : (bytes : List ℕ) → (updated h bytes l).refusal ≡ Nothing → PassFor h.flags l (stream_of h bytes)
+  update-fine : (bytes : List ℕ) → (updated h bytes l).refusal ≡ (Ok tt) → PassFor h.flags l (stream_of h bytes)
   update-fine bytes e = update-passes h bytes l (update-taken h bytes l e)
 
-  finish-fine : (size : ℕ) → finish_refusal h size l ≡ Nothing → PassFor h.flags l (last_blocks h)
+  finish-fine : (size : ℕ) → finish_refusal h size l ≡ (Ok tt) → PassFor h.flags l (last_blocks h)
   finish-fine size e some = finish-passes h size l e
 
   -- the first mark after the last blocks
-  last-told : (size : ℕ) → finish_refusal h size l ≡ Nothing → CallMarked h l (last_blocks h) (last_chain h l).first
+  last-told : (size : ℕ) → finish_refusal h size l ≡ (Ok tt) → CallMarked h l (last_blocks h) (last_chain h l).first
   unfolding last_chain
   last-told size e =
       let a = finish-finishing h size l e in
@@ -103,75 +101,75 @@ module _ (h : Hasher) (l : Loan) where
       rw (tail-is h.pending h.fill (taken h) n) (call-told h l (last_blocks h) a.well)
 
   -- A finish that is not refused hands out a marked hasher's own numbers, and else those of the last blocks, which may be padding blocks.
-  pub finish-told : finish_refusal h digest_size l ≡ Nothing → CallMarked h l (last_blocks h) (finished h l).first
+  pub finish-told : finish_refusal h digest_size l ≡ (Ok tt) → CallMarked h l (last_blocks h) (finished h l).first
   unfolding finished
   finish-told e = rw e (last-told digest_size e)
 
   -- So does a finish-and-reset.
-  pub finish-reset-told : (size : ℕ) → finish_refusal h size l ≡ Nothing → CallMarked h l (last_blocks h) (finished_reset h size l).first
+  pub finish-reset-told : (size : ℕ) → finish_refusal h size l ≡ (Ok tt) → CallMarked h l (last_blocks h) (finished_reset h size l).first
   unfolding finished_reset
   finish-reset-told size e = rw e (last-told size e)
 
   module _ (typed : Typed h) (words : TypedVectors l.tables) where
     -- The same in demand 3's words, in any mode: no earlier block of the call is met by a selected sibling, and no earlier selected record meets
     -- this one. For an update,
-    pub update-told-met : (bytes : List ℕ) → AllBytes bytes → (updated h bytes l).refusal ≡ Nothing
+    pub update-told-met : (bytes : List ℕ) → AllBytes bytes → (updated h bytes l).refusal ≡ Ok tt
         → CallMet h l (stream_of h bytes) (updated h bytes l).hasher.first
     update-told-met bytes b e = to-met h l bytes typed words b (update-fine bytes e) (update-told bytes e)
 
     -- an update in place,
-    pub in-place-told-met : (bytes : List ℕ) → AllBytes bytes → (r : Refusal) (g : Hasher) → InPlace h bytes l r g → r ≡ Nothing
+    pub in-place-told-met : (bytes : List ℕ) → AllBytes bytes → (r : Checked) (g : Hasher) → InPlace h bytes l r g → r ≡ Ok tt
         → CallMet h l (stream_of h bytes) g.first
     in-place-told-met bytes b r g p e =
         subst (λ (k : Hasher). CallMet h l (stream_of h bytes) k.first) (sym p.0) (update-told-met bytes b (sym p.1 ∙ e))
 
     -- a finish,
-    pub finish-told-met : finish_refusal h digest_size l ≡ Nothing → CallMet h l (last_blocks h) (finished h l).first
+    pub finish-told-met : finish_refusal h digest_size l ≡ (Ok tt) → CallMet h l (last_blocks h) (finished h l).first
     finish-told-met e = to-met h l (padding_for (taken h)) typed words (padding_bytes_lem (taken h)) (finish-fine digest_size e) (finish-told e)
 
     -- and a finish-and-reset.
-    pub finish-reset-told-met : (size : ℕ) → finish_refusal h size l ≡ Nothing → CallMet h l (last_blocks h) (finished_reset h size l).first
+    pub finish-reset-told-met : (size : ℕ) → finish_refusal h size l ≡ (Ok tt) → CallMet h l (last_blocks h) (finished_reset h size l).first
     finish-reset-told-met size e =
         to-met h l (padding_for (taken h)) typed words (padding_bytes_lem (taken h)) (finish-fine size e) (finish-reset-told size e)
 
     module _ (conditions : TypedConditions l.tables) where
       -- And with what selects a record spelled out: its bit in the block's mask and, where conditions are looked at, each that names it holds.
-      pub update-told-selected : (bytes : List ℕ) → AllBytes bytes → (updated h bytes l).refusal ≡ Nothing
+      pub update-told-selected : (bytes : List ℕ) → AllBytes bytes → (updated h bytes l).refusal ≡ Ok tt
           → CallSelected h l (stream_of h bytes) (updated h bytes l).hasher.first
       update-told-selected bytes b e = to-selected h l (stream_of h bytes) conditions (update-fine bytes e) (update-told-met bytes b e)
 
-      pub in-place-told-selected : (bytes : List ℕ) → AllBytes bytes → (r : Refusal) (g : Hasher) → InPlace h bytes l r g → r ≡ Nothing
+      pub in-place-told-selected : (bytes : List ℕ) → AllBytes bytes → (r : Checked) (g : Hasher) → InPlace h bytes l r g → r ≡ Ok tt
           → CallSelected h l (stream_of h bytes) g.first
       in-place-told-selected bytes b r g p e =
           to-selected h l (stream_of h bytes) conditions (update-fine bytes (sym p.1 ∙ e)) (in-place-told-met bytes b r g p e)
 
-      pub finish-told-selected : finish_refusal h digest_size l ≡ Nothing → CallSelected h l (last_blocks h) (finished h l).first
+      pub finish-told-selected : finish_refusal h digest_size l ≡ (Ok tt) → CallSelected h l (last_blocks h) (finished h l).first
       finish-told-selected e = to-selected h l (last_blocks h) conditions (finish-fine digest_size e) (finish-told-met e)
 
-      pub finish-reset-told-selected : (size : ℕ) → finish_refusal h size l ≡ Nothing → CallSelected h l (last_blocks h) (finished_reset h size l).first
+      pub finish-reset-told-selected : (size : ℕ) → finish_refusal h size l ≡ (Ok tt) → CallSelected h l (last_blocks h) (finished_reset h size l).first
       finish-reset-told-selected size e = to-selected h l (last_blocks h) conditions (finish-fine size e) (finish-reset-told-met size e)
 
 -- After any run of updates, none refused, on any hasher: as after one update with everything joined.
-module _ (h : Hasher) (size : Sized h) (well : well_formed h ≡ true) (t : Tables) (ps : List Piece) (ok : (piecewise h t ps).refusal ≡ Nothing) where
+module _ (h : Hasher) (size : Sized h) (well : well_formed h ≡ true) (t : Tables) (ps : List Piece) (ok : (piecewise h t ps).refusal ≡ (Ok tt)) where
   pub pieces-told : CallMarked h (lend t (piece_masks ps)) (stream_of h (bytes_of ps)) (piecewise h t ps).hasher.first
   pieces-told =
       let l = lend t (piece_masks ps) in
       let m : (piecewise h t ps).hasher.first ≡ (folded h.flags l (chain_of h) (stream_of h (bytes_of ps))).first =
-      ap (λ (u : Updated). u.hasher.first) (pieces-absorbed ps h t size well ok) ∙ ap (λ (g : Hasher). g.first) (absorbed-is h (bytes_of ps) l)
+      ap (λ (u : UpdateAccount). u.hasher.first) (pieces-absorbed ps h t size well ok) ∙ ap (λ (g : Hasher). g.first) (absorbed-is h (bytes_of ps) l)
       in
       subst (CallMarked h l (stream_of h (bytes_of ps))) (sym m) (call-told h l (stream_of h (bytes_of ps)) well)
 
 -- what is said of the hasher after one update with everything joined is said of the one after the run
-pub on-joined : (P : Hasher → Type 0) (h : Hasher) → Sized h → (t : Tables) (p : Piece) (ps : List Piece) → (piecewise h t (p ∷ ps)).refusal ≡ Nothing
-    → ((updated h (bytes_of (p ∷ ps)) (lend t (piece_masks (p ∷ ps)))).refusal ≡ Nothing → P (updated h (bytes_of (p ∷ ps)) (lend t (piece_masks (p ∷ ps)))).hasher)
+pub on-joined : (P : Hasher → Type 0) (h : Hasher) → Sized h → (t : Tables) (p : Piece) (ps : List Piece) → (piecewise h t (p ∷ ps)).refusal ≡ Ok tt
+    → ((updated h (bytes_of (p ∷ ps)) (lend t (piece_masks (p ∷ ps)))).refusal ≡ (Ok tt) → P (updated h (bytes_of (p ∷ ps)) (lend t (piece_masks (p ∷ ps)))).hasher)
     → P (piecewise h t (p ∷ ps)).hasher
 on-joined P h size t p ps ok by_one =
     let e = cut-joined h size t p ps ok in
-    subst (λ (u : Updated). P u.hasher) (sym e) (by_one (ap (λ (u : Updated). u.refusal) (sym e) ∙ ok))
+    subst (λ (u : UpdateAccount). P u.hasher) (sym e) (by_one (ap (λ (u : UpdateAccount). u.refusal) (sym e) ∙ ok))
 
 -- The same in demand 3's words, and with what selects a record spelled out.
 module _ (h : Hasher) (size : Sized h) (typed : Typed h) (t : Tables) (words : TypedVectors t) (p : Piece) (ps : List Piece) (b : AllBytes (bytes_of (p ∷ ps)))
-    (ok : (piecewise h t (p ∷ ps)).refusal ≡ Nothing) where
+    (ok : (piecewise h t (p ∷ ps)).refusal ≡ (Ok tt)) where
   pub pieces-told-met : CallMet h (lend t (piece_masks (p ∷ ps))) (stream_of h (bytes_of (p ∷ ps))) (piecewise h t (p ∷ ps)).hasher.first
   pieces-told-met =
       on-joined (λ (g : Hasher). CallMet h (lend t (piece_masks (p ∷ ps))) (stream_of h (bytes_of (p ∷ ps))) g.first) h size t p ps ok
@@ -183,11 +181,11 @@ module _ (h : Hasher) (size : Sized h) (typed : Typed h) (t : Tables) (words : T
       (update-told-selected h (lend t (piece_masks (p ∷ ps))) typed words conditions (bytes_of (p ∷ ps)) b)
 
 -- A run of updates from a new hasher: the number is that of the first marked block of the message, from 0.
-pub taking-told : (f : Flags) (t : Tables) (ps : List Piece) → (taking f t ps).refusal ≡ Nothing
+pub taking-told : (f : Flags) (t : Tables) (ps : List Piece) → (taking f t ps).refusal ≡ Ok tt
     → MessageMarked f (lend t (piece_masks ps)) initial (bytes_of ps) (taking f t ps).hasher.first
 taking-told f t ps ok = by_number zero-add ((pieces-told (fresh_of f) (fresh-sound f).size (fresh-sound f).well t ps ok).told refl)
 
-module _ (f : Flags) (t : Tables) (words : TypedVectors t) (p : Piece) (ps : List Piece) (b : AllBytes (bytes_of (p ∷ ps))) (ok : (taking f t (p ∷ ps)).refusal ≡ Nothing) where
+module _ (f : Flags) (t : Tables) (words : TypedVectors t) (p : Piece) (ps : List Piece) (b : AllBytes (bytes_of (p ∷ ps))) (ok : (taking f t (p ∷ ps)).refusal ≡ (Ok tt)) where
   -- from a new hasher, in demand 3's words,
   pub taking-told-met : MessageMet f (lend t (piece_masks (p ∷ ps))) initial (bytes_of (p ∷ ps)) (taking f t (p ∷ ps)).hasher.first
   taking-told-met = by_number zero-add ((pieces-told-met (fresh_of f) (fresh-sound f).size (fresh-typed f) t words p ps b ok).told refl)
@@ -198,36 +196,36 @@ module _ (f : Flags) (t : Tables) (words : TypedVectors t) (p : Piece) (ps : Lis
       by_number zero-add ((pieces-told-selected (fresh_of f) (fresh-sound f).size (fresh-typed f) t words p ps b ok conditions).told refl)
 
 -- So it is from a hasher that a reset that is not refused gave back: it is as a new one with its flags.
-module _ (h : Hasher) (t : Tables) (e : (reset_of h).refusal ≡ Nothing) where
+module _ (h : Hasher) (t : Tables) (e : (reset_of h).refusal ≡ (Ok tt)) where
   -- what is said of the hasher after updates from a new one is said of the one after updates from it
-  on-reset : (P : Hasher → Type 0) (ps : List Piece) → ((taking h.flags t ps).refusal ≡ Nothing → P (taking h.flags t ps).hasher)
-      → (piecewise (reset_of h).hasher t ps).refusal ≡ Nothing → P (piecewise (reset_of h).hasher t ps).hasher
+  on-reset : (P : Hasher → Type 0) (ps : List Piece) → ((taking h.flags t ps).refusal ≡ (Ok tt) → P (taking h.flags t ps).hasher)
+      → (piecewise (reset_of h).hasher t ps).refusal ≡ (Ok tt) → P (piecewise (reset_of h).hasher t ps).hasher
   on-reset P ps from-new =
-      subst (λ (g : Hasher). (piecewise g t ps).refusal ≡ Nothing → P (piecewise g t ps).hasher) (sym (reset-fresh h e)) from-new
+      subst (λ (g : Hasher). (piecewise g t ps).refusal ≡ (Ok tt) → P (piecewise g t ps).hasher) (sym (reset-fresh h e)) from-new
 
-  pub reset-taking-told : (ps : List Piece) → (piecewise (reset_of h).hasher t ps).refusal ≡ Nothing
+  pub reset-taking-told : (ps : List Piece) → (piecewise (reset_of h).hasher t ps).refusal ≡ Ok tt
       → MessageMarked h.flags (lend t (piece_masks ps)) initial (bytes_of ps) (piecewise (reset_of h).hasher t ps).hasher.first
   reset-taking-told ps =
       on-reset (λ (g : Hasher). MessageMarked h.flags (lend t (piece_masks ps)) initial (bytes_of ps) g.first) ps (taking-told h.flags t ps)
 
   module _ (words : TypedVectors t) (p : Piece) (ps : List Piece) (b : AllBytes (bytes_of (p ∷ ps))) where
-    pub reset-taking-told-met : (piecewise (reset_of h).hasher t (p ∷ ps)).refusal ≡ Nothing
+    pub reset-taking-told-met : (piecewise (reset_of h).hasher t (p ∷ ps)).refusal ≡ Ok tt
         → MessageMet h.flags (lend t (piece_masks (p ∷ ps))) initial (bytes_of (p ∷ ps)) (piecewise (reset_of h).hasher t (p ∷ ps)).hasher.first
     reset-taking-told-met =
         on-reset (λ (g : Hasher). MessageMet h.flags (lend t (piece_masks (p ∷ ps))) initial (bytes_of (p ∷ ps)) g.first) (p ∷ ps)
         (taking-told-met h.flags t words p ps b)
 
-    pub reset-taking-told-selected : TypedConditions t → (piecewise (reset_of h).hasher t (p ∷ ps)).refusal ≡ Nothing
+    pub reset-taking-told-selected : TypedConditions t → (piecewise (reset_of h).hasher t (p ∷ ps)).refusal ≡ Ok tt
         → MessageSelected h.flags (lend t (piece_masks (p ∷ ps))) initial (bytes_of (p ∷ ps)) (piecewise (reset_of h).hasher t (p ∷ ps)).hasher.first
     reset-taking-told-selected conditions =
         on-reset (λ (g : Hasher). MessageSelected h.flags (lend t (piece_masks (p ∷ ps))) initial (bytes_of (p ∷ ps)) g.first) (p ∷ ps)
         (λ ok. taking-told-selected h.flags t words p ps b ok conditions)
 
 -- And so it is where the updates of the run are in place.
-module _ (f : Flags) (t : Tables) (r : Refusal) (g : Hasher) (e : r ≡ Nothing) where
+module _ (f : Flags) (t : Tables) (r : Checked) (g : Hasher) (e : r ≡ (Ok tt)) where
   -- what is said of the hasher after the updates by value is said of the one that they leave in place
   on-run-in-place : (P : Hasher → Type 0) (ps : List Piece) → RunInPlace (fresh_of f) t ps r g
-      → ((taking f t ps).refusal ≡ Nothing → P (taking f t ps).hasher) → P g
+      → ((taking f t ps).refusal ≡ (Ok tt) → P (taking f t ps).hasher) → P g
   on-run-in-place P ps run by_value =
       let k = run-in-place ps (fresh_of f) t r g run in
       subst P (sym k.0) (by_value (sym k.1 ∙ e))
@@ -248,7 +246,7 @@ module _ (f : Flags) (t : Tables) (r : Refusal) (g : Hasher) (e : r ≡ Nothing)
         (λ ok. taking-told-selected f t words p ps b ok conditions)
 
 -- A whole message in one call: the first marked block, padding included.
-module _ (f : Flags) (bytes : List ℕ) (l : Loan) (e : whole_refusal f (length bytes) l ≡ Nothing) where
+module _ (f : Flags) (bytes : List ℕ) (l : Loan) (e : whole_refusal f (length bytes) l ≡ (Ok tt)) where
   pub whole-told : MessageMarked f l initial (padded bytes) (whole_of f bytes l).first
   unfolding whole_of whole_chain
   whole-told = rw e (by_number zero-add (fold-told f l first_chain (padded bytes) refl refl))
@@ -264,7 +262,7 @@ module _ (f : Flags) (bytes : List ℕ) (l : Loan) (e : whole_refusal f (length 
     whole-told-selected conditions = by-same (same-selected f l initial (padded bytes) conditions whole-fine) whole-told-met
 
 -- So does the one-shot form, with detection and mitigation on.
-module _ (bytes : List ℕ) (l : Loan) (e : whole_refusal defaults (length bytes) l ≡ Nothing) where
+module _ (bytes : List ℕ) (l : Loan) (e : whole_refusal defaults (length bytes) l ≡ (Ok tt)) where
   pub one-shot-told : MessageMarked defaults l initial (padded bytes) (digested bytes l).first
   one-shot-told = whole-told defaults bytes l e
 
@@ -279,7 +277,7 @@ module _ (bytes : List ℕ) (l : Loan) (e : whole_refusal defaults (length bytes
 module _ (f : Flags) (t : Tables) (ps : List Piece) (last : List ℕ) (ok : NoneRefused f t ps last) where
   -- the numbers are those of the message in one call, whatever the cut
   pub message-first : (whole_of f (bytes_of ps) (loan_of_all t ps last)).first ≡ (hashed f t ps last).first
-  message-first = ap (λ (d : Digested). d.first) (whole-agrees f t ps last ok)
+  message-first = ap (λ (d : WholeAccount). d.first) (whole-agrees f t ps last ok)
 
   pub message-told : MessageMarked f (loan_of_all t ps last) initial (padded (bytes_of ps)) (hashed f t ps last).first
   message-told =

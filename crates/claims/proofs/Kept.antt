@@ -3,8 +3,7 @@ use mathlib.Core.Path.{◌≡◌, refl, ◌∙◌}
 use mathlib.Core.Bool.{true, false}
 use mathlib.Core.List.{List}
 use Prim.Native.Nat.{ℕ}
-use Rattle.refusal.specs.Refusal.{is_nothing}
-use Rattle.refusal.specs.declared.Refusal.TheVariants.{Nothing}
+use Rattle.std.specs.Prelude.{Ok, is_ok}
 use Rattle.word.proofs.Tests.{of_either}
 use Rattle.flags.specs.declared.Flags.{Flags}
 use Rattle.loan.specs.Loan.{Tables, Loan}
@@ -22,7 +21,7 @@ use Rattle.claims.proofs.After.{mark-then, fold-kept, sized-after, of-updated}
 use Rattle.claims.proofs.Piecewise.{of-pieces}
 
 -- A reset gives a fresh hasher with the same flags.
-pub reset-restores : (h : Hasher) → well_formed h ≡ true → reset_of h ≡ record { refusal = Nothing; hasher = fresh_of h.flags }
+pub reset-restores : (h : Hasher) → well_formed h ≡ true → reset_of h ≡ record { refusal = (Ok tt); hasher = fresh_of h.flags }
 unfolding reset_of
 reset-restores h well = rw well
 
@@ -75,7 +74,7 @@ module _ (h : Hasher) (s : Sound h) where
   -- So is what a finish-and-reset hands back.
   pub finish-reset-sound : (size : ℕ) (l : Loan) → Sound (finished_reset h size l).hasher
   unfolding finished_reset
-  finish-reset-sound size l = of_either Sound (is_nothing (finish_refusal h size l)) _ h (fresh-sound h.flags) s
+  finish-reset-sound size l = of_either Sound (is_ok (finish_refusal h size l)) _ h (fresh-sound h.flags) s
 
 -- Any updates one after the other keep the flags.
 pub pieces-flags : (h : Hasher) (t : Tables) (ps : List Piece) → (piecewise h t ps).hasher.flags ≡ h.flags

@@ -6,6 +6,7 @@ use mathlib.Core.Bool.{Bool, true, false, ◌||◌, true≢false, false≢true}
 use Prim.Native.Nat.{ℕ, zero, suc, ◌+◌, ◌<◌}
 use native.Mathlib.Nat.{lt_of_not-le}
 use native.Mathlib.Omega.{arith}
+use Rattle.search.specs.Search.{is_marked, marking_place}
 use Rattle.search.specs.Ended.{Ended, hit, miss}
 use Rattle.search.specs.declared.Found.{Found}
 use Rattle.stream.specs.Fold.{nowhere}
@@ -50,8 +51,8 @@ least-below test (suc n) e = by (any_below test n) refl e (least-below test n)
         (n, record { inside = omega arith; holds = m; none_before = λ j l q. true≢false (sym q ∙ (none_below test n).0 k j l) })
 
 -- what a search ends with, where it found a mark, is the first selected place that marks
-pub hit-least : {selected marks : ℕ → Bool} {n : ℕ} {f : Found} → Ended selected marks n 0 f → f.mark ≡ true
-    → Least n (λ q. (selected q ≡ true) × (marks q ≡ true)) f.place
+pub hit-least : {selected marks : ℕ → Bool} {n : ℕ} {f : Found} → Ended selected marks n 0 f → is_marked f ≡ true
+    → Least n (λ q. (selected q ≡ true) × (marks q ≡ true)) (marking_place f)
 hit-least (hit p a b s m none) e =
     record { inside = b; holds = (s, m); none_before = λ j l q. true≢false (sym q.1 ∙ none j (omega arith) l q.0) }
 hit-least (miss none) e = absurd (false≢true e)

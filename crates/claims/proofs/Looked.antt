@@ -7,7 +7,7 @@ use Prim.Native.Nat.{ℕ, ◌≤◌, ◌<◌}
 use native.Mathlib.Nat.{min-le_left, min_comm}
 use native.Mathlib.Omega.{arith}
 use lib.ListN.{length, take, length-append, length-take}
-use Rattle.refusal.specs.declared.Refusal.TheVariants.{Nothing}
+use Rattle.std.specs.Prelude.{Ok}
 use Rattle.fips.specs.Tail.{tail_blocks}
 use Rattle.fips.proofs.Tails.{tail-some}
 use Rattle.flags.specs.declared.Flags.{Flags}
@@ -48,10 +48,10 @@ pub update-passes : (h : Hasher) (bytes : List ℕ) (l : Loan) → Taken h bytes
 update-passes h bytes l a some = (taken-accepted h bytes l a).good (omega (arith, stream-few h bytes))
 
 -- those of a finish pass,
-pub finish-passes : (h : Hasher) (size : ℕ) (l : Loan) → finish_refusal h size l ≡ Nothing → tables_refusal h.flags l.tables ≡ Nothing
+pub finish-passes : (h : Hasher) (size : ℕ) (l : Loan) → finish_refusal h size l ≡ (Ok tt) → tables_refusal h.flags l.tables ≡ Ok tt
 finish-passes h size l e =
     (loan-accepted h.flags l (tail_blocks h.fill) (finish-finishing h size l e).loan).good (tail-some h.fill)
 
 -- and those of a whole message
-pub whole-passes : (f : Flags) (n : ℕ) (l : Loan) → whole_refusal f n l ≡ Nothing → tables_refusal f l.tables ≡ Nothing
+pub whole-passes : (f : Flags) (n : ℕ) (l : Loan) → whole_refusal f n l ≡ (Ok tt) → tables_refusal f l.tables ≡ Ok tt
 whole-passes f n l e = (loan-accepted f l (blocks_of n) (refusal-whole f n l e).loan).good (blocks-some n)

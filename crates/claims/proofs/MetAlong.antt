@@ -4,6 +4,7 @@ use mathlib.Core.Logic.{◌⊎◌, inl, inr, ⊎_elim, ◌↔◌}
 use mathlib.Core.Bool.{Bool, true, ◌&&◌, or-true}
 use mathlib.Core.List.{List}
 use Prim.Native.Nat.{ℕ}
+use Rattle.search.specs.Search.{is_marked}
 use Rattle.word.specs.Lists.{AllBytes}
 use Rattle.word.proofs.Tests.{both_true, one-true}
 use Rattle.step.specs.Step.{Words}
@@ -32,7 +33,7 @@ module _ (f : Flags) (l : Loan) (h : Regs) (xs : List ℕ) (hw : Words h) (bytes
   marked-in-at on good i =
       let w = words_at f l h xs i in
       let mask = selected_at f l xs i in
-      with-detection f.detect (answer_of (mode_of f) l.tables.vectors w (block_at xs i) mask).found.mark (MetInAt f l h xs i) on
+      with-detection f.detect (is_marked (answer_of (mode_of f) l.tables.vectors w (block_at xs i) mask).found) (MetInAt f l h xs i) on
       (marked-in-exactly w (block_at xs i) l.tables.vectors (hash-words (again_by f l.tables) i h xs (looked_at f l.masks) hw) (block-bytes xs i bytes) words (mode_of f) mask good)
 
   -- one block is marked exactly when detection is on and one is met

@@ -6,6 +6,7 @@ use mathlib.Core.List.{List, []}
 use mathlib.Core.Logic.{◌↔◌, ◌⊎◌, inl, inr}
 use Prim.Native.Nat.{ℕ}
 use lib.ListN.{replicate}
+use Rattle.std.specs.Prelude.{Ok as Said, Err as Refused}
 use Rattle.word.specs.Choice.{pick}
 use Rattle.octets.specs.Octets.{same_bytes}
 use Rattle.refusal.specs.declared.Refusal.{Refusal}
@@ -16,7 +17,6 @@ use Rattle.sheet.specs.Sheet.{digest_at, first_from, lookup_refusal, part_from}
 use Rattle.sheet.specs.Exactly.{Accepted, FirstRecord}
 use Rattle.comparison.specs.Compare.{compared_of}
 use Rattle.comparison.specs.declared.Comparison.TheVariants.{Match, Differs, Absent, Marked}
-use Rattle.comparison.specs.declared.Compared.TheVariants.{Said, Refused}
 use Rattle.comparison.proofs.Answers.{absent-any-verdict}
 use Rattle.comparison.proofs.Exactly.{Sought, turned_away_lem, found, missing, sought, found-said, none_said, refused-said, match-exactly, differs-exactly, answer-marked-exactly}
 use Rattle.claims.specs.OldCompare.{old_compared_of, Changes}

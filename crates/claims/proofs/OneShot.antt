@@ -6,7 +6,7 @@ use mathlib.Core.List.{List, [], ◌∷◌, ◌++◌, append-nil}
 use Prim.Native.Nat.{ℕ, ◌/◌}
 use native.Mathlib.Omega.{arith}
 use lib.ListN.{length, length-append}
-use Rattle.refusal.specs.declared.Refusal.TheVariants.{Nothing}
+use Rattle.std.specs.Prelude.{Ok}
 use Rattle.flags.specs.Flags.{uses_masks, defaults}
 use Rattle.flags.specs.declared.Flags.{Flags}
 use Rattle.loan.specs.Loan.{Tables, lend}
@@ -24,7 +24,7 @@ use Rattle.claims.proofs.Every.{none-refused}
 
 module _ (f : Flags) (t : Tables) (ps : List Piece) (last : List ℕ) where
   -- One call is not refused where the updates and the finish are not.
-  pub whole-taken : NoneRefused f t ps last → whole_refusal f (length (bytes_of ps)) (loan_of_all t ps last) ≡ Nothing
+  pub whole-taken : NoneRefused f t ps last → whole_refusal f (length (bytes_of ps)) (loan_of_all t ps last) ≡ Ok tt
   whole-taken ok =
       let e = ok.updates in
       let a = last-accepted f t ps last ok in
@@ -49,14 +49,14 @@ module _ (f : Flags) (t : Tables) (ps : List Piece) (last : List ℕ) where
   whole-agrees ok = rw (whole-taken ok, hashed-by f t ps last ok)
 
   -- What one call takes, the updates and the finish take, with each block's mask in its turn, if they are looked at.
-  pub whole-cut : (uses_masks f ≡ true → InTurn ps last) → whole_refusal f (length (bytes_of ps)) (loan_of_all t ps last) ≡ Nothing → NoneRefused f t ps last
+  pub whole-cut : (uses_masks f ≡ true → InTurn ps last) → whole_refusal f (length (bytes_of ps)) (loan_of_all t ps last) ≡ (Ok tt) → NoneRefused f t ps last
   whole-cut turn e =
       let w = refusal-whole f (length (bytes_of ps)) (loan_of_all t ps last) e in
       none-refused f t ps last w.short (whole-passes f (length (bytes_of ps)) (loan_of_all t ps last) e) turn
 
 -- So one call, not refused, has the outcome, digest and first mark of one update, with the masks of the whole blocks, and a finish, with the rest.
 pub whole-two : (f : Flags) (t : Tables) (bytes first last : List ℕ) → (uses_masks f ≡ true → length first ≡ length bytes / 64)
-    → whole_refusal f (length bytes) (lend t (first ++ last)) ≡ Nothing
+    → whole_refusal f (length bytes) (lend t (first ++ last)) ≡ Ok tt
     → whole_of f bytes (lend t (first ++ last)) ≡ record { outcome = (in_two f t bytes first last).outcome; digest = (in_two f t bytes first last).digest; first = (in_two f t bytes first last).first }
 whole-two f t bytes first last m e =
     let p : Piece = record { bytes = bytes; masks = first } in
@@ -85,12 +85,12 @@ module _ (t : Tables) (ps : List Piece) (last : List ℕ) where
   one-shot-agrees ok = whole-agrees defaults t ps last ok
 
   -- What the one-shot form takes, the updates and the finish take, with each block's mask in its turn.
-  pub one-shot-cut : InTurn ps last → whole_refusal defaults (length (bytes_of ps)) (loan_of_all t ps last) ≡ Nothing → NoneRefused defaults t ps last
+  pub one-shot-cut : InTurn ps last → whole_refusal defaults (length (bytes_of ps)) (loan_of_all t ps last) ≡ (Ok tt) → NoneRefused defaults t ps last
   one-shot-cut turn e = whole-cut defaults t ps last (λ u. turn) e
 
 -- So the one-shot form, not refused, has the outcome, digest and first mark of one update, with the masks of the whole blocks, and a finish, with the rest.
 pub one-shot-two : (t : Tables) (bytes first last : List ℕ) → length first ≡ length bytes / 64
-    → whole_refusal defaults (length bytes) (lend t (first ++ last)) ≡ Nothing
+    → whole_refusal defaults (length bytes) (lend t (first ++ last)) ≡ Ok tt
     → digested bytes (lend t (first ++ last))
     ≡ record { outcome = (in_two defaults t bytes first last).outcome; digest = (in_two defaults t bytes first last).digest; first = (in_two defaults t bytes first last).first }
 one-shot-two t bytes first last m e = whole-two defaults t bytes first last (λ u. m) e

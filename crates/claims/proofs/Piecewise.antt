@@ -7,18 +7,16 @@ use Prim.Native.Nat.{ℕ, ◌+◌, ◌≤◌, ◌<◌}
 use native.Mathlib.Nat.{eq-zero-or-pos}
 use native.Mathlib.Omega.{arith}
 use lib.ListN.{length, length-append}
+use Rattle.std.specs.Prelude.{Ok, is_ok}
 use Rattle.word.specs.Choice.{pick}
-use Rattle.refusal.specs.Refusal.{is_nothing}
-use Rattle.refusal.specs.declared.Refusal.TheVariants.{Nothing}
 use Rattle.word.proofs.Tests.{of_either}
 use Rattle.fips.specs.Fips.{most_bytes}
 use Rattle.flags.specs.Flags.{uses_masks}
 use Rattle.loan.specs.Loan.{Tables, Loan, lend, tables_refusal}
 use Rattle.loan.proofs.Loans.{accepted-loan}
 use Rattle.refusal.proofs.Passed.{of_refusal_lem}
-use Rattle.hasher.specs.Hasher.{well_formed, taken}
+use Rattle.hasher.specs.Hasher.{well_formed, taken, UpdateAccount}
 use Rattle.hasher.specs.declared.Hasher.{Hasher}
-use Rattle.hasher.specs.declared.Updated.{Updated}
 use Rattle.hasher.proofs.Formed.{formed}
 use Rattle.absorb.specs.Absorb.{absorbed}
 use Rattle.update.specs.Update.{blocks_filled, updated}
@@ -32,7 +30,7 @@ use Rattle.claims.proofs.After.{sized-after}
 use Rattle.claims.proofs.Empty.{absorb-none}
 use Rattle.claims.proofs.Looked.{taken-accepted}
 
-pub piecewise-nil : (h : Hasher) (t : Tables) → piecewise h t [] ≡ record { refusal = Nothing; hasher = h }
+pub piecewise-nil : (h : Hasher) (t : Tables) → piecewise h t [] ≡ record { refusal = (Ok tt); hasher = h }
 unfolding piecewise
 piecewise-nil h t = refl
 
@@ -41,23 +39,23 @@ abbrev pub lent_with : Tables → Piece → Loan
 lent_with t p = lend t p.masks
 
 -- the update with a piece, and the hasher after it where it is not refused
-abbrev pub updated_by : Hasher → Tables → Piece → Updated
+abbrev pub updated_by : Hasher → Tables → Piece → UpdateAccount
 updated_by h t p = updated h p.bytes (lent_with t p)
 
 abbrev pub absorbed_by : Hasher → Tables → Piece → Hasher
 absorbed_by h t p = absorbed h p.bytes (lent_with t p)
 
 pub piecewise-cons : (h : Hasher) (t : Tables) (p : Piece) (ps : List Piece)
-    → piecewise h t (p ∷ ps) ≡ pick (is_nothing (updated_by h t p).refusal) (piecewise (updated_by h t p).hasher t ps) (updated_by h t p)
+    → piecewise h t (p ∷ ps) ≡ pick (is_ok (updated_by h t p).refusal) (piecewise (updated_by h t p).hasher t ps) (updated_by h t p)
 unfolding piecewise
 piecewise-cons h t p ps = refl
 
 module _ (h : Hasher) (t : Tables) (p : Piece) (ps : List Piece) where
-  pub first_taken : (piecewise h t (p ∷ ps)).refusal ≡ Nothing → Taken h p.bytes (lent_with t p)
+  pub first_taken : (piecewise h t (p ∷ ps)).refusal ≡ (Ok tt) → Taken h p.bytes (lent_with t p)
   first_taken e =
       let u = updated_by h t p in
       update-taken h p.bytes (lent_with t p)
-      (of_refusal_lem (λ (v : Updated). v.refusal ≡ Nothing → u.refusal ≡ Nothing) u.refusal (piecewise u.hasher t ps) u (λ k l. k) (λ k l. l)
+      (of_refusal_lem (λ (v : UpdateAccount). v.refusal ≡ (Ok tt) → u.refusal ≡ (Ok tt)) u.refusal (piecewise u.hasher t ps) u (λ k l. k) (λ k l. l)
       (rw (piecewise-cons h t p ps) at e))
 
   pub piecewise-next : Taken h p.bytes (lent_with t p) → piecewise h t (p ∷ ps) ≡ piecewise (absorbed_by h t p) t ps
@@ -92,7 +90,7 @@ taken-cut h t d e ms ns long a b =
           });
     }
 
-pub pieces-taken : (p : Piece) (ps : List Piece) (h : Hasher) (t : Tables) → Sized h → (piecewise h t (p ∷ ps)).refusal ≡ Nothing
+pub pieces-taken : (p : Piece) (ps : List Piece) (h : Hasher) (t : Tables) → Sized h → (piecewise h t (p ∷ ps)).refusal ≡ Ok tt
     → Taken h (bytes_of (p ∷ ps)) (lend t (piece_masks (p ∷ ps)))
 pieces-taken p [] h t size e = rw (append-nil p.bytes, append-nil p.masks) (first_taken h t p [] e)
 pieces-taken p (q ∷ ps) h t size e =
@@ -100,8 +98,8 @@ pieces-taken p (q ∷ ps) h t size e =
     let i = pieces-taken q ps _ t (sized-after h p.bytes (lent_with t p)) (rw (piecewise-next h t p (q ∷ ps) a) at e) in
     taken-cut h t p.bytes (bytes_of (q ∷ ps)) p.masks (piece_masks (q ∷ ps)) size.pending-size a i
 
-pub pieces-absorbed : (ps : List Piece) (h : Hasher) (t : Tables) → Sized h → well_formed h ≡ true → (piecewise h t ps).refusal ≡ Nothing
-    → piecewise h t ps ≡ record { refusal = Nothing; hasher = absorbed h (bytes_of ps) (lend t (piece_masks ps)) }
+pub pieces-absorbed : (ps : List Piece) (h : Hasher) (t : Tables) → Sized h → well_formed h ≡ true → (piecewise h t ps).refusal ≡ Ok tt
+    → piecewise h t ps ≡ record { refusal = (Ok tt); hasher = absorbed h (bytes_of ps) (lend t (piece_masks ps)) }
 pieces-absorbed [] h t size well e = rw (piecewise-nil h t, absorb-none h size well (lend t []))
 pieces-absorbed (p ∷ ps) h t size well e =
     let a = first_taken h t p ps e in
@@ -115,7 +113,7 @@ pieces-absorbed (p ∷ ps) h t size well e =
 -- pieces of which only the length can be refused: the hasher is sound, the tables are good if a block is filled, and there is a mask for each block
 pub record Fitting (h : Hasher) (t : Tables) (ps : List Piece) : Type 0 where
   pub sound : Sound h
-  pub good : 1 ≤ blocks_filled h (length (bytes_of ps)) → tables_refusal h.flags t ≡ Nothing
+  pub good : 1 ≤ blocks_filled h (length (bytes_of ps)) → tables_refusal h.flags t ≡ Ok tt
   pub counts : uses_masks h.flags ≡ true → Counted h.fill ps
 
 module _ (h : Hasher) (t : Tables) (p : Piece) (ps : List Piece) (r : Fitting h t (p ∷ ps)) (fits : taken h + length p.bytes ≤ most_bytes) where
@@ -148,7 +146,7 @@ module _ (h : Hasher) (t : Tables) (p : Piece) (ps : List Piece) (r : Fitting h 
 
 -- such pieces pass if the message is short enough
 pub pieces-pass : (ps : List Piece) (h : Hasher) (t : Tables) → Fitting h t ps → taken h + length (bytes_of ps) ≤ most_bytes
-    → (piecewise h t ps).refusal ≡ Nothing
+    → (piecewise h t ps).refusal ≡ Ok tt
 pieces-pass [] h t r fits = rw (piecewise-nil h t)
 pieces-pass (p ∷ ps) h t r fits =
     let l = length-append p.bytes (bytes_of ps) in
@@ -164,4 +162,4 @@ of-pieces P keeps (q ∷ ps) h t p =
     let u = updated_by h t q in
     let k = keeps h p q.bytes (lent_with t q) in
     rw (piecewise-cons h t q ps)
-    (of_either (λ (v : Updated). P v.hasher) (is_nothing u.refusal) _ u (of-pieces P keeps ps u.hasher t k) k)
+    (of_either (λ (v : UpdateAccount). P v.hasher) (is_ok u.refusal) _ u (of-pieces P keeps ps u.hasher t k) k)

@@ -11,28 +11,26 @@ use mathlib.Core.Bool.{Bool, true, false, not, ◌&&◌, ◌||◌, or-true, true
 use mathlib.Core.List.{List, [], ◌∷◌}
 use Prim.Native.Nat.{ℕ, ◌+◌, ◌≤◌, ◌<◌}
 use native.Mathlib.Omega.{arith}
-use borrow.Author.Tests.{eqb-true, eq-eqb, ne_eqb}
+use borrow.Author.Tests.{eqb-true, eq-eqb}
 use lib.Dec.{eqb}
 use lib.ListN.{length, replicate}
+use Rattle.std.specs.Prelude.{Err, Ok, IsErrAnd, Err as Refused}
 use Rattle.word.specs.Choice.{pick}
 use Rattle.word.proofs.Tests.{both_true, one-true, of_either}
-use Rattle.refusal.specs.Refusal.{number_of, is_nothing, table_numbers, condition_numbers, placed_numbers, one_of}
-use Rattle.refusal.specs.declared.Refusal.{Refusal}
-use Rattle.refusal.specs.declared.Refusal.TheVariants.{Nothing, HasherForm, MessageLength, Size}
-use Rattle.refusal.proofs.Chains.{Decides, decided, negated, less, equal, first-exactly, inside-exactly, last-exactly, inside_is, place_none}
+use Rattle.refusal.specs.Refusal.{number_of, table_numbers, condition_numbers, placed_numbers, one_of, Checked}
+use Rattle.refusal.specs.declared.Refusal.TheVariants.{HasherForm, MessageLength, Size}
+use Rattle.refusal.proofs.Chains.{Decides, refuses, refused_and, decided, negated, less, equal, first-exactly, inside-exactly, last-exactly, inside_is, place_none}
 use Rattle.refusal.proofs.Numbers.{within, apart, Among, over, InFront, in-front}
 use Rattle.refusal.proofs.Passed.{of_refusal_lem}
 use Rattle.verdict.specs.Verdict.{digest_size}
-use Rattle.verdict.specs.declared.Verdict.{Verdict}
 use Rattle.table.specs.Table.{table_fault}
 use Rattle.table.specs.Good.{GoodTable}
 use Rattle.table.proofs.Faults.{fault-numbers}
 use Rattle.table.proofs.Good.{table-0}
 use Rattle.conditions.specs.Conditions.{condition_fault}
 use Rattle.conditions.specs.Good.{GoodConditions}
-use Rattle.detect.specs.Detect.{one_block_refusal, one_block_of, refused_block}
+use Rattle.detect.specs.Detect.{one_block_refusal, one_block_of, refused_block, BlockAccount}
 use Rattle.detect.specs.declared.Mode.{Mode}
-use Rattle.detect.specs.declared.OneBlock.{OneBlock}
 use Rattle.fips.specs.Fips.{most_bytes}
 use Rattle.fips.specs.Tail.{tail_blocks}
 use Rattle.fips.proofs.Tails.{tail-some}
@@ -41,13 +39,11 @@ use Rattle.flags.specs.declared.Flags.{Flags}
 use Rattle.loan.specs.Loan.{Tables, Loan, tables_refusal, loan_refusal, both_numbers, loan_numbers, WellCounted, Miscounted, ConditionsPass, GoodTables, ConditionsGive, VectorsGive, GoodLoan}
 use Rattle.loan.proofs.Loans.{loan-0, loan-6, loan-conditions, loan-table, loan-gives, loan-gives-conditions, loan-is, loan-only, one-setting}
 use Rattle.stream.specs.Fold.{nowhere}
-use Rattle.hasher.specs.Hasher.{well_formed, taken, fresh_of, reset_of}
+use Rattle.stream.specs.declared.Chain.{Chain}
+use Rattle.hasher.specs.Hasher.{well_formed, taken, fresh_of, reset_of, UpdateAccount}
 use Rattle.hasher.specs.declared.Hasher.{Hasher}
-use Rattle.hasher.specs.declared.Updated.{Updated}
 use Rattle.update.specs.Update.{blocks_filled, update_refusal, updated}
-use Rattle.finish.specs.Finish.{finish_refusal, outcome_refusal, outcome_number, outcome_place, finished, finished_reset, written_out}
-use Rattle.finish.specs.declared.Outcome.{Outcome}
-use Rattle.finish.specs.declared.Outcome.TheVariants.{Done, Refused}
+use Rattle.finish.specs.Finish.{finish_refusal, outcome_of, outcome_refusal, outcome_number, outcome_place, finished, finished_reset, written_out, Outcome}
 use Rattle.one_shot.specs.Whole.{blocks_of, whole_refusal, whole_of, digested}
 use Rattle.one_shot.proofs.Fed.{blocks-some}
 use Rattle.in_place.specs.InPlace.{InPlace}
@@ -126,7 +122,7 @@ loan-by-tables f l blocks o =
     (which-table n o)
 
 -- what each line of the table says of the refusal r of a call that refuses 1, then by a test of its own, then of its loan
-record Lines (r : Refusal) (h : Hasher) (own : ℕ) (P Q : Type 0) (l : Loan) (blocks : ℕ) : Type 1 where
+record Lines (r : Checked) (h : Hasher) (own : ℕ) (P Q : Type 0) (l : Loan) (blocks : ℕ) : Type 1 where
   at_1 : (number_of r ≡ 1) ↔ (WellFormed h → ⊥)
   at_own : (number_of r ≡ own) ↔ (WellFormed h × P)
   at-loan : (n : ℕ) (R : Type 0) → one_of (0 ∷ loan_numbers) n ≡ true → (number_of (loan_refusal h.flags l blocks) ≡ n) ↔ R
@@ -135,13 +131,13 @@ record Lines (r : Refusal) (h : Hasher) (own : ℕ) (P Q : Type 0) (l : Loan) (b
   among : Among (1 ∷ own ∷ 0 ∷ loan_numbers) r
 
 -- the chain of an update and of a finish-and-reset: the number of the test of its own is no other's
-lines : (h : Hasher) {b : Bool} {P Q : Type 0} → Decides b P Q → (own : Refusal) (l : Loan) (blocks : ℕ) → one_of (0 ∷ loan_numbers) (number_of own) ≡ false
-    → one_of (number_of own ∷ 0 ∷ loan_numbers) 1 ≡ false → (r : Refusal) → r ≡ pick (not (well_formed h)) HasherForm (pick b own (loan_refusal h.flags l blocks))
+lines : (h : Hasher) {b : Bool} {P Q : Type 0} → Decides b P Q → (own : Checked) (l : Loan) (blocks : ℕ) → one_of (0 ∷ loan_numbers) (number_of own) ≡ false
+    → one_of (number_of own ∷ 0 ∷ loan_numbers) 1 ≡ false → (r : Checked) → r ≡ pick (not (well_formed h)) (Err HasherForm) (pick b own (loan_refusal h.flags l blocks))
     → Lines r h (number_of own) P Q l blocks
 lines h {b = b} {P = P} {Q = Q} says own l blocks other late r e =
     let s = loan_refusal h.flags l blocks in
     let inner = in-front says (pick b own s) own s (0 ∷ loan_numbers) refl (loan-only h.flags l blocks) other in
-    let outer = in-front (form-decides h) r HasherForm (pick b own s) (number_of own ∷ 0 ∷ loan_numbers) e inner.among late in
+    let outer = in-front (form-decides h) r (Err HasherForm) (pick b own s) (number_of own ∷ 0 ∷ loan_numbers) e inner.among late in
     record {
       at_1 = outer.at_own;
       at_own = outer.behind (number_of own) P (rw (eq-eqb (number_of own) (number_of own) refl)) inner.at_own;
@@ -152,27 +148,27 @@ lines h {b = b} {P = P} {Q = Q} says own l blocks other late r e =
 
 -- Reset: 1.
 module _ (h : Hasher) where
-  reset-is : (reset_of h).refusal ≡ pick (well_formed h) Nothing HasherForm
+  reset-is : (reset_of h).refusal ≡ pick (well_formed h) (Ok tt) (Err HasherForm)
   unfolding reset_of
   reset-is = by (well_formed h)
     where
-      by : (b : Bool) → (pick {A = Updated} b (record { refusal = Nothing; hasher = fresh_of h.flags }) (record { refusal = HasherForm; hasher = h })).refusal ≡ pick b Nothing HasherForm
+      by : (b : Bool) → (pick {A = UpdateAccount} b (record { refusal = (Ok tt); hasher = fresh_of h.flags }) (record { refusal = (Err HasherForm); hasher = h })).refusal ≡ pick b (Ok tt) (Err HasherForm)
       by true = refl
       by false = refl
 
   pub reset-0 : (number_of (reset_of h).refusal ≡ 0) ↔ WellFormed h
-  reset-0 = over 0 _ reset-is (first-exactly (well-decides h) Nothing HasherForm 0 refl (λ e. omega arith))
+  reset-0 = over 0 _ reset-is (first-exactly (well-decides h) (Ok tt) (Err HasherForm) 0 refl (λ e. omega arith))
 
   pub reset-1 : (number_of (reset_of h).refusal ≡ 1) ↔ (WellFormed h → ⊥)
-  reset-1 = over 1 _ reset-is (last-exactly (well-decides h) Nothing HasherForm 1 (λ e. omega arith) refl)
+  reset-1 = over 1 _ reset-is (last-exactly (well-decides h) (Ok tt) (Err HasherForm) 1 (λ e. omega arith) refl)
 
   pub reset-only : one_of (0 ∷ 1 ∷ []) (number_of (reset_of h).refusal) ≡ true
   reset-only =
       let l : List ℕ = 0 ∷ 1 ∷ [] in
-      subst (Among l) (sym reset-is) (of_either (Among l) (well_formed h) Nothing HasherForm refl refl)
+      subst (Among l) (sym reset-is) (of_either (Among l) (well_formed h) (Ok tt) (Err HasherForm) refl refl)
 
   -- a refusal hands the hasher back as it was
-  pub reset-refused : (WellFormed h → ⊥) → reset_of h ≡ record { refusal = HasherForm; hasher = h }
+  pub reset-refused : (WellFormed h → ⊥) → reset_of h ≡ record { refusal = (Err HasherForm); hasher = h }
   unfolding reset_of
   reset-refused n = rw ((well-decides h).off.1 n)
 
@@ -182,7 +178,7 @@ module _ (h : Hasher) (bytes : List ℕ) (l : Loan) where
       l (blocks_filled h (length bytes))
   unfolding updated update_refusal
   update-lines =
-      lines h (less most_bytes (taken h + length bytes)) MessageLength l (blocks_filled h (length bytes)) refl refl _ refl
+      lines h (less most_bytes (taken h + length bytes)) (Err MessageLength) l (blocks_filled h (length bytes)) refl refl _ refl
 
   -- nothing is refused exactly when no line of the table holds
   pub update-0 : (number_of (updated h bytes l).refusal ≡ 0)
@@ -247,10 +243,10 @@ module _ (h : Hasher) (bytes : List ℕ) (l : Loan) where
   -- a refusal hands the hasher back as it was
   pub update-refused : (number_of (updated h bytes l).refusal ≡ 0 → ⊥) → (updated h bytes l).hasher ≡ h
   unfolding updated
-  update-refused n = rw (ne_eqb (number_of (update_refusal h bytes l)) 0 n)
+  update-refused n = rw (refuses (update_refusal h bytes l) n)
 
   -- and one in place leaves the lent hasher as it was
-  pub in-place-refused : (r : Refusal) (g : Hasher) → InPlace h bytes l r g → (number_of r ≡ 0 → ⊥) → g ≡ h
+  pub in-place-refused : (r : Checked) (g : Hasher) → InPlace h bytes l r g → (number_of r ≡ 0 → ⊥) → g ≡ h
   in-place-refused r g p n = p.0 ∙ update-refused (λ e. n (ap number_of p.1 ∙ e))
 
 -- One block: 8, then the table.
@@ -259,42 +255,43 @@ module _ (five block table : List ℕ) (mask : ℕ) (mode : Mode) where
   unfolding one_block_of
   block_is_lem =
       let r = one_block_refusal (length block) table in
-      of_refusal_lem (λ (o : OneBlock). o.refusal ≡ r) r _ (refused_block r) (λ e. sym e) (λ e. refl)
+      of_refusal_lem (λ (o : BlockAccount). o.refusal ≡ r) r _ (refused_block r) (λ e. sym e) (λ e. refl)
 
   pub block_0 : (number_of (one_block_of five block table mask mode).refusal ≡ 0) ↔ ((length block ≡ 64) × GoodTable table)
   block_0 =
       over 0 _ block_is_lem
-      (Iff.trans (inside-exactly (equal (length block) 64) (table_fault table) Size 0 (λ e. omega arith)) (Iff.and Iff.rfl (table-0 table)))
+      (Iff.trans (inside-exactly (equal (length block) 64) (table_fault table) (Err Size) 0 (λ e. omega arith)) (Iff.and Iff.rfl (table-0 table)))
 
   pub block-8 : (number_of (one_block_of five block table mask mode).refusal ≡ 8) ↔ (length block ≡ 64 → ⊥)
   block-8 =
       over 8 _ block_is_lem
-      (last-exactly (equal (length block) 64) (table_fault table) Size 8 (λ e. apart (0 ∷ table_numbers) 8 (number_of (table_fault table)) (fault-numbers table) refl (sym e)) refl)
+      (last-exactly (equal (length block) 64) (table_fault table) (Err Size) 8 (λ e. apart (0 ∷ table_numbers) 8 (number_of (table_fault table)) (fault-numbers table) refl (sym e)) refl)
 
   pub block-table : (n : ℕ) → one_of table_numbers n ≡ true
       → (number_of (one_block_of five block table mask mode).refusal ≡ n) ↔ ((length block ≡ 64) × (number_of (table_fault table) ≡ n))
   block-table n t =
-      over n _ block_is_lem (inside-exactly (equal (length block) 64) (table_fault table) Size n (apart table_numbers 8 n t refl))
+      over n _ block_is_lem (inside-exactly (equal (length block) 64) (table_fault table) (Err Size) n (apart table_numbers 8 n t refl))
 
   -- where the table is looked at, what is wrong with it is what is given, number and place
   pub block-gives : length block ≡ 64 → (one_block_of five block table mask mode).refusal ≡ table_fault table
-  block-gives e = block_is_lem ∙ inside_is (equal (length block) 64) (table_fault table) Size e
+  block-gives e = block_is_lem ∙ inside_is (equal (length block) 64) (table_fault table) (Err Size) e
 
   pub block-only : one_of (0 ∷ 8 ∷ table_numbers) (number_of (one_block_of five block table mask mode).refusal) ≡ true
   block-only =
       let l : List ℕ = 0 ∷ 8 ∷ table_numbers in
       subst (Among l) (sym block_is_lem)
-      (of_either (Among l) (eqb (length block) 64) _ Size (within l (0 ∷ table_numbers) (number_of (table_fault table)) refl (fault-numbers table)) refl)
+      (of_either (Among l) (eqb (length block) 64) _ (Err Size) (within l (0 ∷ table_numbers) (number_of (table_fault table)) refl (fault-numbers table)) refl)
 
   -- a refusal gives no mark and zeros
   pub block_refused : (number_of (one_block_of five block table mask mode).refusal ≡ 0 → ⊥)
       → one_block_of five block table mask mode ≡ refused_block (one_block_of five block table mask mode).refusal
   unfolding one_block_of
-  block_refused n = rw (ne_eqb (number_of (one_block_refusal (length block) table)) 0 (λ e. n (ap number_of block_is_lem ∙ e)))
+  block_refused n = rw (refuses (one_block_refusal (length block) table) (λ e. n (ap number_of block_is_lem ∙ e)))
 
 -- an outcome refuses what its call refuses
-outcome-is : (r : Refusal) (v : Verdict) → outcome_refusal (pick (is_nothing r) (Done v) (Refused r)) ≡ r
-outcome-is r v = of_refusal_lem (λ (o : Outcome). outcome_refusal o ≡ r) r (Done v) (Refused r) (λ e. sym e) (λ e. refl)
+outcome-is : (r : Checked) (c : Chain) (mitigate : Bool) → outcome_refusal (outcome_of r c mitigate) ≡ r
+outcome-is (Ok tt) c mitigate = refl
+outcome-is (Err r) c mitigate = refl
 
 -- its place is 0 for every number but those that name a record's place, as it is for every refusal
 pub outcome_place_lem : (o : Outcome) → one_of placed_numbers (outcome_number o) ≡ false → outcome_place o ≡ 0
@@ -304,12 +301,12 @@ outcome_place_lem o = place_none (outcome_refusal o)
 module _ (h : Hasher) (l : Loan) where
   finish-is : outcome_refusal (finished h l).outcome ≡ finish_refusal h digest_size l
   unfolding finished
-  finish-is = outcome-is _ _
+  finish-is = outcome-is _ _ _
 
-  finish-front : InFront (outcome_refusal (finished h l).outcome) HasherForm (loan_refusal h.flags l (tail_blocks h.fill))
+  finish-front : InFront (outcome_refusal (finished h l).outcome) (Err HasherForm) (loan_refusal h.flags l (tail_blocks h.fill))
       (WellFormed h → ⊥) (WellFormed h) (0 ∷ loan_numbers)
   unfolding finish_refusal
-  finish-front = in-front (form-decides h) _ HasherForm _ (0 ∷ loan_numbers) finish-is (loan-only h.flags l (tail_blocks h.fill)) refl
+  finish-front = in-front (form-decides h) _ (Err HasherForm) _ (0 ∷ loan_numbers) finish-is (loan-only h.flags l (tail_blocks h.fill)) refl
 
   pub finish-0 : (outcome_number (finished h l).outcome ≡ 0)
       ↔ (WellFormed h × (WellCounted h.flags l (tail_blocks h.fill) × GoodTables h.flags l.tables))
@@ -356,20 +353,21 @@ module _ (h : Hasher) (l : Loan) where
 
   -- a refusal gives no verdict and zeros, and the hasher as it was
   pub finish-refused : (outcome_number (finished h l).outcome ≡ 0 → ⊥)
-      → finished h l ≡ record { outcome = Refused (finish_refusal h digest_size l); digest = replicate digest_size 0; first = nowhere; hasher = h }
+      → IsErrAnd (finish_refusal h digest_size l)
+      (λ r. finished h l ≡ record { outcome = Refused r; digest = replicate digest_size 0; first = nowhere; hasher = h })
   unfolding finished
-  finish-refused n = rw (ne_eqb (number_of (finish_refusal h digest_size l)) 0 (λ e. n (ap number_of finish-is ∙ e)))
+  finish-refused n = refused_and _ _ (refuses _ (λ e. n (ap number_of finish-is ∙ e))) (λ r e. rw e)
 
 -- Finish-and-reset: 1, 8, then its loan. It is lent an output of some size.
 module _ (h : Hasher) (size : ℕ) (l : Loan) where
-  finish-reset-is : outcome_refusal (finished_reset h size l).outcome ≡ finish_refusal h size l
+  pub finish-reset-is : outcome_refusal (finished_reset h size l).outcome ≡ finish_refusal h size l
   unfolding finished_reset
-  finish-reset-is = outcome-is _ _
+  finish-reset-is = outcome-is _ _ _
 
   finish-reset-lines : Lines (outcome_refusal (finished_reset h size l).outcome) h 8 (size ≡ digest_size → ⊥) (size ≡ digest_size)
       l (tail_blocks h.fill)
   unfolding finish_refusal
-  finish-reset-lines = lines h (negated (equal size digest_size)) Size l (tail_blocks h.fill) refl refl _ finish-reset-is
+  finish-reset-lines = lines h (negated (equal size digest_size)) (Err Size) l (tail_blocks h.fill) refl refl _ finish-reset-is
 
   pub finish-reset-0 : (outcome_number (finished_reset h size l).outcome ≡ 0)
       ↔ (WellFormed h × ((size ≡ digest_size) × (WellCounted h.flags l (tail_blocks h.fill) × GoodTables h.flags l.tables)))
@@ -422,24 +420,31 @@ module _ (h : Hasher) (size : ℕ) (l : Loan) where
 
 -- a refused finish-and-reset gives no verdict, the hasher as it was, and writes nothing
 pub finish-reset-refused : (h : Hasher) (out : List ℕ) (l : Loan) → (outcome_number (finished_reset h (length out) l).outcome ≡ 0 → ⊥)
-    → (finished_reset h (length out) l ≡ record { outcome = Refused (finish_refusal h (length out) l); first = nowhere; hasher = h })
-    × (written_out h out l ≡ out)
+    → IsErrAnd (finish_refusal h (length out) l)
+    (λ r. (finished_reset h (length out) l ≡ record { outcome = Refused r; first = nowhere; hasher = h }) × (written_out h out l ≡ out))
 unfolding finished_reset written_out
 finish-reset-refused h out l n =
-    let e = ne_eqb (number_of (finish_refusal h (length out) l)) 0 (λ e. n (ap number_of (finish-reset-is h (length out) l) ∙ e)) in
-    (rw e, rw e)
+    refused_and _ _ (refuses _ (λ e. n (ap number_of (finish-reset-is h (length out) l) ∙ e))) (λ r e. (rw e, rw e))
+
+-- what is left of it where it is refused, without the refusal
+pub finish-reset-kept : (h : Hasher) (out : List ℕ) (l : Loan) → (outcome_number (finished_reset h (length out) l).outcome ≡ 0 → ⊥)
+    → ((finished_reset h (length out) l).hasher ≡ h) × ((finished_reset h (length out) l).first ≡ nowhere) × (written_out h out l ≡ out)
+unfolding finished_reset written_out
+finish-reset-kept h out l n =
+    let e = refuses (finish_refusal h (length out) l) (λ e. n (ap number_of (finish-reset-is h (length out) l) ∙ e)) in
+    (rw e, rw e, rw e)
 
 -- A whole message with any flags: 7, then its loan.
 module _ (f : Flags) (bytes : List ℕ) (l : Loan) where
   whole_is : outcome_refusal (whole_of f bytes l).outcome ≡ whole_refusal f (length bytes) l
   unfolding whole_of
-  whole_is = outcome-is _ _
+  whole_is = outcome-is _ _ _
 
-  whole-front : InFront (outcome_refusal (whole_of f bytes l).outcome) MessageLength (loan_refusal f l (blocks_of (length bytes)))
+  whole-front : InFront (outcome_refusal (whole_of f bytes l).outcome) (Err MessageLength) (loan_refusal f l (blocks_of (length bytes)))
       (most_bytes < length bytes) (length bytes ≤ most_bytes) (0 ∷ loan_numbers)
   unfolding whole_refusal
   whole-front =
-      in-front (less most_bytes (length bytes)) _ MessageLength _ (0 ∷ loan_numbers) whole_is (loan-only f l (blocks_of (length bytes))) refl
+      in-front (less most_bytes (length bytes)) _ (Err MessageLength) _ (0 ∷ loan_numbers) whole_is (loan-only f l (blocks_of (length bytes))) refl
 
   pub whole-0 : (outcome_number (whole_of f bytes l).outcome ≡ 0)
       ↔ ((length bytes ≤ most_bytes) × (WellCounted f l (blocks_of (length bytes)) × GoodTables f l.tables))
@@ -494,9 +499,10 @@ module _ (f : Flags) (bytes : List ℕ) (l : Loan) where
 
   -- a refusal gives no verdict and zeros
   pub whole-refused : (outcome_number (whole_of f bytes l).outcome ≡ 0 → ⊥)
-      → whole_of f bytes l ≡ record { outcome = Refused (whole_refusal f (length bytes) l); digest = replicate digest_size 0; first = nowhere }
+      → IsErrAnd (whole_refusal f (length bytes) l)
+      (λ r. whole_of f bytes l ≡ record { outcome = Refused r; digest = replicate digest_size 0; first = nowhere })
   unfolding whole_of
-  whole-refused n = rw (ne_eqb (number_of (whole_refusal f (length bytes) l)) 0 (λ e. n (ap number_of whole_is ∙ e)))
+  whole-refused n = refused_and _ _ (refuses _ (λ e. n (ap number_of whole_is ∙ e))) (λ r e. rw e)
 
 -- what holds where a flag is on, and what holds with it on, of a flag that is
 where-on : (A : Type 0) → (true ≡ true → A) ↔ A
@@ -545,5 +551,6 @@ module _ (bytes : List ℕ) (l : Loan) where
 
   -- a refusal gives no verdict and zeros
   pub shot-refused : (outcome_number (digested bytes l).outcome ≡ 0 → ⊥)
-      → digested bytes l ≡ record { outcome = Refused (whole_refusal defaults (length bytes) l); digest = replicate digest_size 0; first = nowhere }
+      → IsErrAnd (whole_refusal defaults (length bytes) l)
+      (λ r. digested bytes l ≡ record { outcome = Refused r; digest = replicate digest_size 0; first = nowhere })
   shot-refused = whole-refused defaults bytes l

@@ -12,10 +12,10 @@ use borrow.Author.Tests.{eqb-true, eq-eqb}
 use lib.Bits.{bit_and, and_shr, and_mod}
 use lib.Dec.{lit<}
 use lib.ListN.{length}
+use Rattle.std.specs.Prelude.{Ok}
 use Rattle.word.specs.Choice.{pick}
 use Rattle.word.specs.Lists.{AllWords, AllBytes}
-use Rattle.refusal.specs.declared.Refusal.{Refusal}
-use Rattle.refusal.specs.declared.Refusal.TheVariants.{Nothing}
+use Rattle.refusal.specs.Refusal.{Checked}
 use Rattle.verdict.specs.Verdict.{digest_size}
 use Rattle.step.specs.Step.{Words, regs_of}
 use Rattle.step.specs.declared.Regs.{Regs}
@@ -153,33 +153,33 @@ mark-by h l xs conditions fine =
 
 module _ (h : Hasher) (l : Loan) (typed : Typed h) (vectors : TypedVectors l.tables) (conditions : TypedConditions l.tables) where
   -- An update that is not refused leaves a mark exactly when there was one or, with detection on, a record that is selected for a block that it fills meets it.
-  pub update-selected : (bytes : List ℕ) → AllBytes bytes → (updated h bytes l).refusal ≡ Nothing
+  pub update-selected : (bytes : List ℕ) → AllBytes bytes → (updated h bytes l).refusal ≡ Ok tt
       → ((updated h bytes l).hasher.mark ≡ true) ↔ MarkedAfterBy h l (stream_of h bytes)
   update-selected bytes b e =
       Iff.trans (update-met h l typed vectors bytes b e) (mark-by h l (stream_of h bytes) conditions (update-passes h bytes l (update-taken h bytes l e)))
 
   -- So does an update in place.
-  pub in-place-selected : (bytes : List ℕ) → AllBytes bytes → (r : Refusal) (g : Hasher) → InPlace h bytes l r g → r ≡ Nothing
+  pub in-place-selected : (bytes : List ℕ) → AllBytes bytes → (r : Checked) (g : Hasher) → InPlace h bytes l r g → r ≡ Ok tt
       → (g.mark ≡ true) ↔ MarkedAfterBy h l (stream_of h bytes)
   in-place-selected bytes b r g p e =
       Iff.trans (in-place-met h l typed vectors bytes b r g p e)
       (mark-by h l (stream_of h bytes) conditions (update-passes h bytes l (update-taken h bytes l (sym p.1 ∙ e))))
 
-  last-by : (size : ℕ) → finish_refusal h size l ≡ Nothing → MarkedAfter h l (last_blocks h) ↔ MarkedAfterBy h l (last_blocks h)
+  last-by : (size : ℕ) → finish_refusal h size l ≡ (Ok tt) → MarkedAfter h l (last_blocks h) ↔ MarkedAfterBy h l (last_blocks h)
   last-by size e = mark-by h l (last_blocks h) conditions (λ some. finish-passes h size l e)
 
   -- A finish that is not refused gives its verdict by whether there was one or, with detection on, such a record meets one of the last blocks.
-  pub finish-selected : finish_refusal h digest_size l ≡ Nothing → VerdictBy (finished h l).outcome h.flags.mitigate (MarkedAfterBy h l (last_blocks h))
+  pub finish-selected : finish_refusal h digest_size l ≡ (Ok tt) → VerdictBy (finished h l).outcome h.flags.mitigate (MarkedAfterBy h l (last_blocks h))
   finish-selected e = decided-by (last-by digest_size e) (finish-met h l typed vectors e)
 
   -- So does a finish-and-reset.
-  pub finish-reset-selected : (size : ℕ) → finish_refusal h size l ≡ Nothing
+  pub finish-reset-selected : (size : ℕ) → finish_refusal h size l ≡ Ok tt
       → VerdictBy (finished_reset h size l).outcome h.flags.mitigate (MarkedAfterBy h l (last_blocks h))
   finish-reset-selected size e = decided-by (last-by size e) (finish-reset-met h l typed vectors size e)
 
 -- A whole message in one call does by whether detection is on and such a record meets one of its blocks, padding included.
 pub whole-selected : (f : Flags) (bytes : List ℕ) (l : Loan) → AllBytes bytes → TypedVectors l.tables → TypedConditions l.tables
-    → whole_refusal f (length bytes) l ≡ Nothing
+    → whole_refusal f (length bytes) l ≡ Ok tt
     → VerdictBy (whole_of f bytes l).outcome f.mitigate ((f.detect ≡ true) × OneMetBy f l initial (padded bytes))
 whole-selected f bytes l b vectors conditions e =
     decided-by (one-met-by f l initial (padded bytes) conditions (λ some. whole-passes f (length bytes) l e)) (whole-met f bytes l b vectors e)

@@ -5,8 +5,8 @@ use mathlib.Core.Bool.{Bool, true, false}
 use mathlib.Core.List.{List}
 use Prim.Native.Nat.{ℕ}
 use lib.ListN.{length}
+use Rattle.std.specs.Prelude.{is_ok}
 use Rattle.word.specs.Choice.{pick}
-use Rattle.refusal.specs.Refusal.{is_nothing}
 use Rattle.verdict.specs.Verdict.{digest_size}
 use Rattle.fips.specs.Fips.{padded}
 use Rattle.fips.specs.Tail.{tail_blocks, tail_of}
@@ -47,7 +47,7 @@ module _ (a b : Masks) (l k : Loan) where
         ≡ record { refusal = (updated (set_masks h b) bytes k).refusal; hasher = set_masks (updated (set_masks h b) bytes k).hasher a }
     unfolding updated
     update_alike =
-        let p = is_nothing (update_refusal (set_masks h b) bytes k) in
+        let p = is_ok (update_refusal (set_masks h b) bytes k) in
         rw (update_refusal_lem, update-hasher, set-picked p (absorbed (set_masks h b) bytes k) (set_masks h b) a)
 
   module _ (h : Hasher) (e : Alike a b l k h.flags (tail_blocks h.fill) (chain_of h) (tail_of h.pending h.fill (taken h))) where
@@ -68,7 +68,7 @@ module _ (a b : Masks) (l k : Loan) where
         ≡ record { outcome = (finished_reset (set_masks h b) size k).outcome; first = (finished_reset (set_masks h b) size k).first; hasher = set_masks (finished_reset (set_masks h b) size k).hasher a }
     unfolding finished_reset
     finish-reset-alike size =
-        let p = is_nothing (finish_refusal (set_masks h b) size k) in
+        let p = is_ok (finish_refusal (set_masks h b) size k) in
         rw (finish_refusal_lem size, last-alike, set-picked p (fresh_of (set_masks h b).flags) (set_masks h b) a)
 
     pub output-alike : (out : List ℕ) → written_out (set_masks h a) out l ≡ written_out (set_masks h b) out k

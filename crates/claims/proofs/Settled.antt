@@ -13,21 +13,23 @@ use contract.Lifetimes.{Lfts}
 use contract.Monad.{Fun, fact}
 use denote.Triple.Entry.{Args, Res}
 use denote.Triple.Clauses.{AtExit}
-use Rattle.refusal.specs.declared.Refusal.{Refusal}
+use Rattle.refusal.specs.Refusal.{Checked}
 use Rattle.fips.specs.Tail.{tail_blocks}
-use Rattle.loan.specs.Loan.{Loan, loan_of}
+use Rattle.loan.specs.Loan.{Loan, loan_in}
 use Rattle.hasher.specs.declared.Hasher.{Hasher}
 use Rattle.in_place.specs.InPlace.{InPlace}
 use Rattle.octets.proofs.store.Kinds as store-kinds
 use Rattle.octets.proofs.store.Reads as store-contract
 use Rattle.block.proofs.compression_states.Kinds as compression-states-kinds
 use Rattle.block.proofs.compression_states.Reads as compression-states-contract
-use Rattle.refusal.proofs.number.Kinds as number-kinds
-use Rattle.refusal.proofs.number.Reads as number-contract
-use Rattle.refusal.proofs.place.Kinds as place-kinds
-use Rattle.refusal.proofs.place.Reads as place-contract
-use Rattle.refusal.proofs.is_nothing.Kinds as is-nothing-kinds
-use Rattle.refusal.proofs.is_nothing.Reads as is-nothing-contract
+use Rattle.refusal.proofs.Refusal.number.Kinds as number-kinds
+use Rattle.refusal.proofs.Refusal.number.Reads as number-contract
+use Rattle.refusal.proofs.Refusal.place.Kinds as place-kinds
+use Rattle.refusal.proofs.Refusal.place.Reads as place-contract
+use Rattle.refusal.proofs.number_of.Kinds as number-of-kinds
+use Rattle.refusal.proofs.number_of.Reads as number-of-contract
+use Rattle.refusal.proofs.place_of.Kinds as place-of-kinds
+use Rattle.refusal.proofs.place_of.Reads as place-of-contract
 use Rattle.table.proofs.table_fault.Kinds as table-fault-kinds
 use Rattle.table.proofs.table_fault.Reads as table-fault-contract
 use Rattle.conditions.proofs.condition_fault.Kinds as condition-fault-kinds
@@ -64,14 +66,14 @@ use Rattle.fips.proofs.tail.Kinds as tail-kinds
 use Rattle.fips.proofs.tail.Reads as tail-contract
 use Rattle.stream.proofs.fold_blocks.Kinds as fold-blocks-kinds
 use Rattle.stream.proofs.fold_blocks.Reads as fold-blocks-contract
-use Rattle.loan.proofs.loan_refusal.Kinds as loan-refusal-kinds
-use Rattle.loan.proofs.loan_refusal.Reads as loan-refusal-contract
-use Rattle.loan.proofs.looked_at.Kinds as looked-at-kinds
-use Rattle.loan.proofs.conditions_for.Kinds as conditions-for-kinds
-use Rattle.loan.proofs.looked_at.Reads as looked-at-contract
-use Rattle.loan.proofs.conditions_for.Reads as conditions-for-contract
-use Rattle.loan.proofs.masks_from.Kinds as masks-from-kinds
-use Rattle.loan.proofs.masks_from.Reads as masks-from-contract
+use Rattle.loan.proofs.Lent.check.Kinds as loan-refusal-kinds
+use Rattle.loan.proofs.Lent.check.Reads as loan-refusal-contract
+use Rattle.loan.proofs.Lent.looked_at.Kinds as looked-at-kinds
+use Rattle.loan.proofs.Lent.conditions_for.Kinds as conditions-for-kinds
+use Rattle.loan.proofs.Lent.looked_at.Reads as looked-at-contract
+use Rattle.loan.proofs.Lent.conditions_for.Reads as conditions-for-contract
+use Rattle.loan.proofs.Lent.later.Kinds as later-kinds
+use Rattle.loan.proofs.Lent.later.Reads as later-contract
 use Rattle.hasher.proofs.reset.Kinds as reset-kinds
 use Rattle.hasher.proofs.reset.Reads as reset-contract
 use Rattle.hasher.proofs.Hasher.new.Kinds as new-kinds
@@ -123,15 +125,18 @@ same p q = p ∙ sym q
 pub equation-settled : (n : ℕ) (ps : List (ParamKind n)) (r : ResultKind n) (meaning : (κs : Lfts n) → Dens κs ps → (res_t r κs).Denot) → Settled n ps r (Equation n ps r meaning)
 equation-settled n ps r meaning t = same t.first t.second
 
--- A refusal's number and place, and whether it is one.
+-- A refusal's number and place, and those of what a check answers.
 pub number-settled : Settled 0 number-kinds.ps number-kinds.r number-contract.Post
 number-settled t = same t.first t.second
 
 pub place-settled : Settled 0 place-kinds.ps place-kinds.r place-contract.Post
 place-settled t = same t.first t.second
 
-pub is-nothing-settled : Settled 0 is-nothing-kinds.ps is-nothing-kinds.r is-nothing-contract.Post
-is-nothing-settled t = same t.first t.second
+pub number-of-settled : Settled 0 number-of-kinds.ps number-of-kinds.r number-of-contract.Post
+number-of-settled t = same t.first t.second
+
+pub place-of-settled : Settled 0 place-of-kinds.ps place-of-kinds.r place-of-contract.Post
+place-of-settled t = same t.first t.second
 
 -- What is wrong with a table.
 pub table-fault-settled : Settled 1 table-fault-kinds.ps table-fault-kinds.r table-fault-contract.Post
@@ -152,10 +157,10 @@ pub one-block-settled : Settled 2 one-block-kinds.ps one-block-kinds.r one-block
 one-block-settled t = same t.first t.second
 
 -- An update, and its work where nothing is refused.
-pub update-settled : Settled 4 update-kinds.ps update-kinds.r update-contract.Post
+pub update-settled : Settled 2 update-kinds.ps update-kinds.r update-contract.Post
 update-settled t = same t.first t.second
 
-pub absorb-settled : Settled 4 absorb-kinds.ps absorb-kinds.r absorb-contract.Post
+pub absorb-settled : Settled 2 absorb-kinds.ps absorb-kinds.r absorb-contract.Post
 absorb-settled t = same t.first t.second
 
 -- A reset.
@@ -163,17 +168,17 @@ pub reset-settled : Settled 0 reset-kinds.ps reset-kinds.r reset-contract.Post
 reset-settled t = same t.first t.second
 
 -- A finish, and the chain after the last blocks.
-pub finish-settled : Settled 3 finish-kinds.ps finish-kinds.r finish-contract.Post
+pub finish-settled : Settled 1 finish-kinds.ps finish-kinds.r finish-contract.Post
 finish-settled t = same t.first t.second
 
-pub last-chain-settled : Settled 3 last-chain-kinds.ps last-chain-kinds.r last-chain-contract.Post
+pub last-chain-settled : Settled 1 last-chain-kinds.ps last-chain-kinds.r last-chain-contract.Post
 last-chain-settled t = same t.first t.second
 
 -- The one-shot form, and a whole message with any flags.
 pub one-shot-settled : Settled 3 one-shot-kinds.ps one-shot-kinds.r one-shot-contract.Post
 one-shot-settled t = same t.first t.second
 
-pub whole-settled : Settled 4 whole_Kinds.ps whole_Kinds.r whole-contract.Post
+pub whole-settled : Settled 2 whole_Kinds.ps whole_Kinds.r whole-contract.Post
 whole-settled t = same t.first t.second
 
 -- A new hasher, one at a chain, its chain, and the test of its form.
@@ -215,10 +220,10 @@ pub uses-conditions-settled : Settled 0 uses-conditions-kinds.ps uses-conditions
 uses-conditions-settled t = same t.first t.second
 
 -- The blocks of a stream, and what is refused of a loan.
-pub fold-blocks-settled : Settled 4 fold-blocks-kinds.ps fold-blocks-kinds.r fold-blocks-contract.Post
+pub fold-blocks-settled : Settled 2 fold-blocks-kinds.ps fold-blocks-kinds.r fold-blocks-contract.Post
 fold-blocks-settled t = same t.first t.second
 
-pub loan-refusal-settled : Settled 3 loan-refusal-kinds.ps loan-refusal-kinds.r loan-refusal-contract.Post
+pub loan-refusal-settled : Settled 1 loan-refusal-kinds.ps loan-refusal-kinds.r loan-refusal-contract.Post
 loan-refusal-settled t = same t.first t.second
 
 -- The standard: its blocks, the number of the last ones, and the digest.
@@ -249,15 +254,15 @@ part-from-settled t = same t.first t.second
 pub compare-settled : Settled 2 compare-kinds.ps compare-kinds.r compare-contract.Post
 compare-settled t = same t.first t.second
 
-pub comparison-word-settled : Settled 0 comparison-word-kinds.ps comparison-word-kinds.r comparison-word-contract.Post
+pub comparison-word-settled : (t : TwoResults 1 comparison-word-kinds.ps comparison-word-kinds.r comparison-word-contract.Post) → t.x.now ≡ t.y.now
 comparison-word-settled t = same t.first t.second
 
 -- An update in place of a local.
-pub through-settled : Settled 4 through-kinds.ps through-kinds.r through-contract.Post
+pub through-settled : Settled 2 through-kinds.ps through-kinds.r through-contract.Post
 through-settled t = same t.first t.second
 
 -- A finish-and-reset, with the bytes that it leaves in the lent output.
-pub finish-and-reset-settled : (t : TwoResults 4 finish-reset-kinds.ps finish-reset-kinds.r finish-reset-contract.Post)
+pub finish-and-reset-settled : (t : TwoResults 2 finish-reset-kinds.ps finish-reset-kinds.r finish-reset-contract.Post)
     → (t.x ≡ t.y) × (t.d.1.0.now ≡ t.e.1.0.now)
 finish-and-reset-settled t = (same t.first.0 t.second.0, same t.first.1 t.second.1)
 
@@ -273,9 +278,9 @@ store-settled t = same t.first t.second
 pub lookup-settled : (t : TwoResults 2 lookup-kinds.ps lookup-kinds.r lookup-contract.Post) → (t.x.now ≡ t.y.now) × (t.x.ref_ptr ≡ t.y.ref_ptr)
 lookup-settled t = (same t.first.0 t.second.0, same t.first.1 t.second.1)
 
--- The masks after the first n: those handed back; where they lie is left open.
-pub masks-from-settled : (t : TwoResults 1 masks-from-kinds.ps masks-from-kinds.r masks-from-contract.Post) → t.x.now ≡ t.y.now
-masks-from-settled t = same t.first t.second
+-- What is left of a loan for the blocks after the first n: what it holds; where that lies is left open.
+pub later-settled : (t : TwoResults 1 later-kinds.ps later-kinds.r later-contract.Post) → loan_in t.x ≡ loan_in t.y
+later-settled t = same t.first t.second
 
 -- The masks that the flags ask for: likewise.
 pub looked-at-settled : (t : TwoResults 1 looked-at-kinds.ps looked-at-kinds.r looked-at-contract.Post) → t.x.now ≡ t.y.now
@@ -292,12 +297,12 @@ tail-settled t = same t.first t.second
 
 -- What the contract of an update in place, which is proved by hand, says of its result and of the hasher at exit is `InPlace`.
 pub in-place-says : {M : Type 1} {𝓤 : Ura M} (𝓛 : Logic 𝓤) (mem : Memory → SProp 𝓤) (run : Routine → Fun 𝓤)
-    (κs : Lfts 5) (a : Args in_place.signature κs) (r : Res in_place.signature κs) (e : AtExit in_place.ended κs)
+    (κs : Lfts (in_place.signature).lifetimes) (a : Args in_place.signature κs) (r : Res in_place.signature κs) (e : AtExit in_place.ended κs)
     → (in_place.clauses 𝓛 mem run κs a).ensures tt r e
-    ≡ fact 𝓤 (InPlace a.0.now a.1.0.now (loan_of a.1.1.0.now a.1.1.1.0.now a.1.1.1.1.0.now) r e.0.now)
+    ≡ fact 𝓤 (InPlace a.0.now a.1.0.now (loan_in a.1.1.0) r e.0.now)
 in-place-says 𝓛 mem run κs a r e = refl
 
 -- An update in place: its refusal, and the hasher that it leaves in lent memory.
-pub update-in-place-settled : (h : Hasher) (bytes : List ℕ) (l : Loan) (r s : Refusal) (g k : Hasher)
+pub update-in-place-settled : (h : Hasher) (bytes : List ℕ) (l : Loan) (r s : Checked) (g k : Hasher)
     → InPlace h bytes l r g → InPlace h bytes l s k → (r ≡ s) × (g ≡ k)
 update-in-place-settled h bytes l r s g k p q = (same p.1 q.1, same p.0 q.0)

@@ -8,13 +8,13 @@ use mathlib.Core.List.{List, [], ◌∷◌}
 use Prim.Native.Nat.{ℕ, ◌+◌, ◌%◌, ◌≤◌, ◌<◌}
 use native.Mathlib.Nat.{eq-zero-or-pos}
 use native.Mathlib.Omega.{arith}
-use borrow.Author.Tests.{eqb-true, ne_eqb}
+use borrow.Author.Tests.{eqb-true}
 use lib.Dec.{eqb}
 use lib.ListN.{length, length-append}
+use Rattle.std.specs.Prelude.{Ok}
 use Rattle.word.proofs.Tests.{one-true}
-use Rattle.refusal.specs.Refusal.{number_of, one_of}
-use Rattle.refusal.specs.declared.Refusal.{Refusal}
-use Rattle.refusal.specs.declared.Refusal.TheVariants.{Nothing}
+use Rattle.refusal.specs.Refusal.{number_of, one_of, Checked}
+use Rattle.refusal.proofs.Chains.{refuses}
 use Rattle.refusal.proofs.Numbers.{apart}
 use Rattle.table.specs.Good.{GoodTable}
 use Rattle.fips.specs.Fips.{most_bytes}
@@ -24,9 +24,8 @@ use Rattle.flags.specs.declared.Flags.{Flags}
 use Rattle.loan.specs.Loan.{Tables, Loan, lend, tables_refusal, loan_numbers, both_numbers, WellCounted, GoodTables}
 use Rattle.loan.proofs.Loans.{loan-short, tables-good}
 use Rattle.stream.proofs.Folded.{folded-none}
-use Rattle.hasher.specs.Hasher.{taken, chain_of, fresh_of}
+use Rattle.hasher.specs.Hasher.{taken, chain_of, fresh_of, UpdateAccount}
 use Rattle.hasher.specs.declared.Hasher.{Hasher}
-use Rattle.hasher.specs.declared.Updated.{Updated}
 use Rattle.hasher.proofs.Formed.{formed}
 use Rattle.absorb.specs.Absorb.{stream_of, absorbed}
 use Rattle.absorb.proofs.Moves.{absorbed-is}
@@ -75,7 +74,7 @@ module _ (h : Hasher) (bytes : List ℕ) (short : Short h bytes) where
   short-update t u masks = rw (short-refusal t u masks, short-absorbed (lend t masks) (lend u masks))
 
   -- So does one in place.
-  pub short-in-place : (t u : Tables) (masks : List ℕ) (r : Refusal) (g : Hasher) → InPlace h bytes (lend t masks) r g → InPlace h bytes (lend u masks) r g
+  pub short-in-place : (t u : Tables) (masks : List ℕ) (r : Checked) (g : Hasher) → InPlace h bytes (lend t masks) r g → InPlace h bytes (lend u masks) r g
   short-in-place t u masks r g p = rw (short-update t u masks) at p
 
   -- the longest message has the largest block count and 63 bytes after it, so that there is room wherever no block gets full
@@ -117,14 +116,14 @@ module _ (h : Hasher) (bytes : List ℕ) (short : Short h bytes) where
         (given_first_lem short-fits (Iff.and Iff.rfl (λ n k. n (e.1 k), λ n k. n (e.0 k))))
 
 -- the tables are refused with r, and all else that a run of updates looks at is right
-record Bad (h : Hasher) (t : Tables) (ps : List Piece) (r : Refusal) : Type 0 where
+record Bad (h : Hasher) (t : Tables) (ps : List Piece) (r : Checked) : Type 0 where
   sound : Sound h
   counts : uses_masks h.flags ≡ true → Counted h.fill ps
   fits : taken h + length (bytes_of ps) ≤ most_bytes
   bad : tables_refusal h.flags t ≡ r
   given : number_of r ≡ 0 → ⊥
 
-module _ (h : Hasher) (t : Tables) (p : Piece) (ps : List Piece) (r : Refusal) (b : Bad h t (p ∷ ps) r) where
+module _ (h : Hasher) (t : Tables) (p : Piece) (ps : List Piece) (r : Checked) (b : Bad h t (p ∷ ps) r) where
   -- the first piece leaves the message short enough
   first_fits : taken h + length p.bytes ≤ most_bytes
   first_fits = let n = b.fits in omega (arith, length-append p.bytes (bytes_of ps))
@@ -143,7 +142,7 @@ module _ (h : Hasher) (t : Tables) (p : Piece) (ps : List Piece) (r : Refusal) (
         short = omega arith;
         all-taken = rw (piecewise-nil h t);
         refused = rw (piecewise-nil h t) e;
-        ends = rw (piecewise-cons h t p ps, piecewise-nil h t, e, ne_eqb (number_of r) 0 b.given, kept);
+        ends = rw (piecewise-cons h t p ps, piecewise-nil h t, e, refuses r b.given, kept);
       }
 
   module _ (none : blocks_filled h (length p.bytes) ≡ 0) where
@@ -184,7 +183,7 @@ module _ (h : Hasher) (t : Tables) (p : Piece) (ps : List Piece) (r : Refusal) (
         }
 
 -- such a run ends, if a block is filled
-bad-ends : (ps : List Piece) (h : Hasher) (t : Tables) (r : Refusal) → Bad h t ps r → 1 ≤ blocks_filled h (length (bytes_of ps)) → EndsAt h t ps r
+bad-ends : (ps : List Piece) (h : Hasher) (t : Tables) (r : Checked) → Bad h t ps r → 1 ≤ blocks_filled h (length (bytes_of ps)) → EndsAt h t ps r
 bad-ends [] h t r b some = let below = (formed h b.sound.well).fill-le in absurd (omega arith)
 bad-ends (p ∷ ps) h t r b some =
     ⊎_elim
@@ -212,11 +211,11 @@ refused-cut h size t ps masks counts o =
     bad-ends ps h t r b k.2
 
 -- So it is in place: a run that ends leaves that refusal, and the hasher after the pieces before it.
-pub ends-in-place : (h : Hasher) (t : Tables) (ps : List Piece) (r : Refusal) (k : EndsAt h t ps r) (answer : Refusal) (g : Hasher) → RunInPlace h t ps answer g
+pub ends-in-place : (h : Hasher) (t : Tables) (ps : List Piece) (r : Checked) (k : EndsAt h t ps r) (answer : Checked) (g : Hasher) → RunInPlace h t ps answer g
     → (answer ≡ r) × (g ≡ (piecewise h t k.front).hasher)
 ends-in-place h t ps r k answer g run =
     let e = run-in-place ps h t answer g run in
-    (e.1 ∙ ap (λ (u : Updated). u.refusal) k.ends, e.0 ∙ ap (λ (u : Updated). u.hasher) k.ends)
+    (e.1 ∙ ap (λ (u : UpdateAccount). u.refusal) k.ends, e.0 ∙ ap (λ (u : UpdateAccount). u.hasher) k.ends)
 
 -- A finish always looks: with tables that are not good it is refused, whatever is pending or if nothing is,
 pub bad-finish : (h : Hasher) (l : Loan) → (GoodTables h.flags l.tables → ⊥) → outcome_number (finished h l).outcome ≡ 0 → ⊥
@@ -243,7 +242,7 @@ module _ (f : Flags) (t : Tables) (ps : List Piece) (last : List ℕ) where
   -- mask in its turn, if they are looked at: the first update that compresses a block or, where none does, the finish, all updates taken.
   pub whole-refused-cut : (masks : List ℕ) → (uses_masks f ≡ true → InTurn ps last) → ByTables (outcome_refusal (whole_of f (bytes_of ps) (lend t masks)).outcome)
       → EndsAt (fresh_of f) t ps (outcome_refusal (whole_of f (bytes_of ps) (lend t masks)).outcome)
-      ⊎ (((taking f t ps).refusal ≡ Nothing) × (outcome_refusal (hashed f t ps last).outcome ≡ outcome_refusal (whole_of f (bytes_of ps) (lend t masks)).outcome))
+      ⊎ (((taking f t ps).refusal ≡ (Ok tt)) × (outcome_refusal (hashed f t ps last).outcome ≡ outcome_refusal (whole_of f (bytes_of ps) (lend t masks)).outcome))
   whole-refused-cut masks turn o =
       let r = outcome_refusal (whole_of f (bytes_of ps) (lend t masks)).outcome in
       let k = whole-by-tables f (bytes_of ps) (lend t masks) o in

@@ -5,6 +5,8 @@ use mathlib.Core.Logic.{◌↔◌}
 use mathlib.Core.Bool.{true, false}
 use mathlib.Core.List.{List}
 use Prim.Native.Nat.{ℕ}
+use Rattle.search.specs.Search.{is_marked}
+use Rattle.std.specs.Prelude.{Ok as Done}
 use Rattle.word.specs.Lists.{AllBytes}
 use Rattle.verdict.specs.declared.Verdict.TheVariants.{Ok, Mitigated, Collision}
 use Rattle.detect.specs.Detect.{answer_of}
@@ -13,7 +15,6 @@ use Rattle.flags.specs.declared.Flags.{Flags}
 use Rattle.loan.specs.Loan.{Tables, Loan, looked_at}
 use Rattle.loan.proofs.Loans.{tables-good}
 use Rattle.stream.specs.Fold.{mode_of}
-use Rattle.finish.specs.declared.Outcome.TheVariants.{Done}
 use Rattle.claims.specs.Sound.{TypedVectors, VectorsGood}
 use Rattle.claims.specs.Pieces.{Piece, bytes_of, hashed, loan_of_all, NoneRefused}
 use Rattle.claims.specs.Marked.{again_by, block_at, selected_at, words_before, marked_at}
@@ -33,7 +34,7 @@ module _ (f : Flags) (on : f.detect ≡ true) (off : f.reduced ≡ false) where
         let h = words_before f l msg i in
         let block = block_at (padded msg) i in
         let mask = selected_at f l (padded msg) i in
-        with-detection f.detect (answer_of (mode_of f) l.tables.vectors h block mask).found.mark (MetAt f l msg i) on
+        with-detection f.detect (is_marked (answer_of (mode_of f) l.tables.vectors h block mask).found) (MetAt f l msg i) on
         (marked-exactly h block l.tables.vectors (hash-words (again_by f l.tables) i initial (padded msg) (looked_at f l.masks) initial-words)
         (block-bytes (padded msg) i (padded-bytes msg bytes)) words (mode_of f) mask good off)
 

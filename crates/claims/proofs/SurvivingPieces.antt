@@ -4,16 +4,15 @@ use mathlib.Core.Path.{◌≡◌, refl, sym, ap, ◌∙◌}
 use mathlib.Core.Bool.{Bool, true, false}
 use mathlib.Core.List.{List, [], ◌∷◌}
 use Prim.Native.Nat.{ℕ}
+use Rattle.std.specs.Prelude.{is_ok}
 use Rattle.word.specs.Choice.{pick}
-use Rattle.refusal.specs.Refusal.{is_nothing}
 use Rattle.flags.specs.Flags.{with_masks}
 use Rattle.flags.specs.declared.Flags.{Flags}
 use Rattle.flags.specs.declared.Masks.{Masks}
 use Rattle.flags.specs.declared.Masks.TheVariants.{Lent, Conditions}
 use Rattle.loan.specs.Loan.{Tables, lend, ConditionsPass}
-use Rattle.hasher.specs.Hasher.{fresh_of}
+use Rattle.hasher.specs.Hasher.{fresh_of, UpdateAccount}
 use Rattle.hasher.specs.declared.Hasher.{Hasher}
-use Rattle.hasher.specs.declared.Updated.{Updated}
 use Rattle.update.specs.Update.{updated}
 use Rattle.finish.specs.Finish.{finished}
 use Rattle.claims.specs.Pieces.{Piece, piecewise, taking, hashed}
@@ -23,14 +22,14 @@ use Rattle.claims.proofs.Kept.{update-flags, fresh-sound, pieces-sound, pieces-f
 use Rattle.claims.proofs.BothSettings.{update-surviving, finish-surviving}
 
 -- an answer with the hasher that it hands back in the setting of conditions
-abbrev pub to_conditions : Updated → Updated
+abbrev pub to_conditions : UpdateAccount → UpdateAccount
 to_conditions u = record { refusal = u.refusal; hasher = conditions_on u.hasher }
 
 -- a hasher of a setting is as it was when set to it
 set_own : (h : Hasher) (masks : Masks) → h.flags.masks ≡ masks → set_masks h masks ≡ h
 set_own h masks e = rw (← e)
 
-picked : (b : Bool) (x y : Updated) → to_conditions (pick b x y) ≡ pick b (to_conditions x) (to_conditions y)
+picked : (b : Bool) (x y : UpdateAccount) → to_conditions (pick b x y) ≡ pick b (to_conditions x) (to_conditions y)
 picked true x y = refl
 picked false x y = refl
 
@@ -50,10 +49,10 @@ module _ (t : Tables) where
       let next = pieces-surviving ps u.hasher (rw flags pass) in
       let rest = surviving_pieces u.hasher t ps in
       let q : Piece = record { bytes = p.bytes; masks = k.masks } in
-      let b = is_nothing u.refusal in
+      let b = is_ok u.refusal in
       piecewise-cons (conditions_on h) t p ps
-      ∙ ap (λ (v : Updated). pick (is_nothing v.refusal) (piecewise v.hasher t ps) v) e
-      ∙ ap (λ (v : Updated). pick b v (to_conditions u)) (next ∙ ap (λ (g : Hasher). to_conditions (piecewise g t rest)) own)
+      ∙ ap (λ (v : UpdateAccount). pick (is_ok v.refusal) (piecewise v.hasher t ps) v) e
+      ∙ ap (λ (v : UpdateAccount). pick b v (to_conditions u)) (next ∙ ap (λ (g : Hasher). to_conditions (piecewise g t rest)) own)
       ∙ sym (picked b (piecewise u.hasher t rest) u)
       ∙ ap to_conditions (sym (piecewise-cons (masks_on h) t q rest))
 
@@ -74,6 +73,6 @@ module _ (t : Tables) where
         let flags : after.flags ≡ with_masks f Lent = pieces-flags (fresh_of (with_masks f Lent)) t (surviving_pieces (fresh_of f) t ps) in
         let sound = pieces-sound (fresh_of (with_masks f Lent)) t (surviving_pieces (fresh_of f) t ps) (fresh-sound (with_masks f Lent)) in
         let own : masks_on after ≡ after = set_own after Lent (ap (λ (g : Flags). g.masks) flags) in
-        ap (λ (u : Updated). finished u.hasher (lend t last)) (pieces-surviving ps (fresh_of f) pass)
+        ap (λ (u : UpdateAccount). finished u.hasher (lend t last)) (pieces-surviving ps (fresh_of f) pass)
         ∙ finish-surviving after (lend t last) (rw flags pass) sound.size.pending-size
         ∙ ap (λ (g : Hasher). record { outcome = (finished g (surviving_last after (lend t last))).outcome; digest = (finished g (surviving_last after (lend t last))).digest; first = (finished g (surviving_last after (lend t last))).first; hasher = conditions_on after }) own

@@ -6,13 +6,14 @@ use mathlib.Core.List.{List, [], ◌∷◌}
 use Prim.Native.Nat.{ℕ, suc, ◌≤◌, ◌<◌}
 use native.Mathlib.Nat.{lt_of_not-le}
 use native.Mathlib.Omega.{arith}
-use borrow.Author.Tests.{eqb-true, eq-eqb}
+use borrow.Author.Tests.{eqb-true}
 use lib.Dec.{eqb}
 use lib.ListN.{length}
+use Rattle.search.specs.Search.{is_marked}
+use Rattle.std.specs.Prelude.{Ok, is_ok}
 use Rattle.word.proofs.Tests.{one-true}
-use Rattle.refusal.specs.Refusal.{number_of, place_of, is_nothing, table_numbers, one_of}
-use Rattle.refusal.specs.declared.Refusal.TheVariants.{Nothing}
-use Rattle.refusal.proofs.Chains.{nothing_is}
+use Rattle.refusal.specs.Refusal.{number_of, place_of, table_numbers, one_of}
+use Rattle.refusal.proofs.Chains.{passes, nothing_is}
 use Rattle.step.specs.Step.{regs_of}
 use Rattle.step.specs.declared.Regs.{Regs}
 use Rattle.block.specs.Schedule.{words_of, schedule_of}
@@ -27,9 +28,8 @@ use Rattle.search.specs.Marks.{selects, marks}
 use Rattle.search.specs.Ended.{Ended, hit, miss}
 use Rattle.search.specs.declared.Found.{Found}
 use Rattle.search.proofs.Counted.{count-grows, count_most}
-use Rattle.detect.specs.Detect.{answer_of, one_block_of}
+use Rattle.detect.specs.Detect.{answer_of, one_block_of, BlockAccount}
 use Rattle.detect.specs.declared.Mode.{Mode}
-use Rattle.detect.specs.declared.OneBlock.{OneBlock}
 use Rattle.claims.specs.First.{Least}
 use Rattle.claims.specs.Tried.{bits_set, records_set}
 use Rattle.claims.proofs.OneBlock.{place-and-tried, block-answered}
@@ -83,30 +83,30 @@ module _ (table : List ℕ) where
     pub tried-most : (mode : Mode) (h : Regs) (block : List ℕ) (mask : ℕ) → (answer_of mode table h block mask).found.tried ≤ bits_set mask
     tried-most mode h block mask = tried-by mask (marks mode.reduced h (schedule_of (words_of block)) table) (place-and-tried mode table h block mask)
 
-  all-tried : (mask : ℕ) (test : ℕ → Bool) {f : Found} → Ended (selects mask table) test (records_in (length table)) 0 f → f.mark ≡ false → f.tried ≡ records_set table mask
+  all-tried : (mask : ℕ) (test : ℕ → Bool) {f : Found} → Ended (selects mask table) test (records_in (length table)) 0 f → is_marked f ≡ false → f.tried ≡ records_set table mask
   all-tried mask test (hit p a b s m none) e = absurd (true≢false e)
   all-tried mask test (miss none) e = refl
 
   -- Unmarked, they are exactly the records whose bit is set.
-  pub tried-unmarked : (mode : Mode) (h : Regs) (block : List ℕ) (mask : ℕ) → (answer_of mode table h block mask).found.mark ≡ false
+  pub tried-unmarked : (mode : Mode) (h : Regs) (block : List ℕ) (mask : ℕ) → is_marked (answer_of mode table h block mask).found ≡ false
       → (answer_of mode table h block mask).found.tried ≡ records_set table mask
   tried-unmarked mode h block mask = all-tried mask (marks mode.reduced h (schedule_of (words_of block)) table) (place-and-tried mode table h block mask)
 
 -- The one-block entry never says that more were tried, refused or not,
 module _ (five block table : List ℕ) (mask : ℕ) (mode : Mode) where
   pub entry-tried-most : (one_block_of five block table mask mode).found.tried ≤ bits_set mask
-  entry-tried-most = by (is_nothing (one_block_of five block table mask mode).refusal) refl
+  entry-tried-most = by (is_ok (one_block_of five block table mask mode).refusal) refl
     where
-      by : (b : Bool) → is_nothing (one_block_of five block table mask mode).refusal ≡ b → (one_block_of five block table mask mode).found.tried ≤ bits_set mask
+      by : (b : Bool) → is_ok (one_block_of five block table mask mode).refusal ≡ b → (one_block_of five block table mask mode).found.tried ≤ bits_set mask
       by true e =
           let ok = nothing_is _ e in
           rw (block-answered five block table mask mode ok) (tried-most table ((block_0 five block table mask mode).0 (ap number_of ok)).1 mode (regs_of five) block mask)
       by false e =
-          rw (block_refused five block table mask mode (λ z. true≢false (sym (eq-eqb _ 0 z) ∙ e))) (omega arith)
+          rw (block_refused five block table mask mode (λ z. true≢false (sym (passes _ z) ∙ e))) (omega arith)
 
   -- and where it refuses nothing and the block is unmarked, exactly so many.
-  pub entry-tried-unmarked : (one_block_of five block table mask mode).refusal ≡ Nothing → (one_block_of five block table mask mode).found.mark ≡ false
+  pub entry-tried-unmarked : (one_block_of five block table mask mode).refusal ≡ (Ok tt) → is_marked (one_block_of five block table mask mode).found ≡ false
       → (one_block_of five block table mask mode).found.tried ≡ records_set table mask
   entry-tried-unmarked ok e =
       let a = block-answered five block table mask mode ok in
-      ap (λ (o : OneBlock). o.found.tried) a ∙ tried-unmarked table mode (regs_of five) block mask (sym (ap (λ (o : OneBlock). o.found.mark) a) ∙ e)
+      ap (λ (o : BlockAccount). o.found.tried) a ∙ tried-unmarked table mode (regs_of five) block mask (sym (ap (λ (o : BlockAccount). is_marked o.found) a) ∙ e)

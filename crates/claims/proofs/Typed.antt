@@ -4,18 +4,17 @@ use mathlib.Core.List.{List}
 use Prim.Native.Nat.{ℕ, zero, suc, ◌-◌, ◌*◌, ◌/◌}
 use lib.Dec.{lit<}
 use lib.ListN.{length, take, replicate}
+use Rattle.std.specs.Prelude.{is_ok}
 use Rattle.word.specs.Lists.{AllWords, AllBytes}
 use Rattle.word.proofs.Tests.{of_either}
-use Rattle.refusal.specs.Refusal.{is_nothing}
 use Rattle.word.proofs.Below.{append-below, replicate-below, take_below, drop-below}
 use Rattle.step.specs.Step.{Words, regs_of, five_of}
 use Rattle.step.specs.declared.Regs.{Regs}
 use Rattle.fips.specs.Fips.{initial}
 use Rattle.flags.specs.declared.Flags.{Flags}
 use Rattle.loan.specs.Loan.{Loan, looked_at}
-use Rattle.hasher.specs.Hasher.{well_formed, chain_of, fresh_of, reset_of}
+use Rattle.hasher.specs.Hasher.{well_formed, chain_of, fresh_of, reset_of, UpdateAccount}
 use Rattle.hasher.specs.declared.Hasher.{Hasher}
-use Rattle.hasher.specs.declared.Updated.{Updated}
 use Rattle.absorb.specs.Absorb.{stream_of, rest_of}
 use Rattle.update.specs.Update.{updated}
 use Rattle.absorb.proofs.Moves.{chain_after, absorbed-is}
@@ -66,9 +65,9 @@ module _ (h : Hasher) (typed : Typed h) where
   -- So does what a reset hands back.
   pub reset-typed : Typed (reset_of h).hasher
   unfolding reset_of
-  reset-typed = of_either (λ (u : Updated). Typed u.hasher) (well_formed h) _ _ (fresh-typed h.flags) typed
+  reset-typed = of_either (λ (u : UpdateAccount). Typed u.hasher) (well_formed h) _ _ (fresh-typed h.flags) typed
 
   -- So does what a finish-and-reset hands back.
   pub finish-reset-typed : (size : ℕ) (l : Loan) → Typed (finished_reset h size l).hasher
   unfolding finished_reset
-  finish-reset-typed size l = of_either Typed (is_nothing (finish_refusal h size l)) _ h (fresh-typed h.flags) typed
+  finish-reset-typed size l = of_either Typed (is_ok (finish_refusal h size l)) _ h (fresh-typed h.flags) typed

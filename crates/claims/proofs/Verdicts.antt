@@ -5,14 +5,13 @@ use mathlib.Core.List.{List}
 use mathlib.Core.Logic.Iff
 use mathlib.Core.Logic.{◌↔◌}
 use Prim.Native.Nat.{ℕ}
+use Rattle.finish.specs.Finish.{FinishAccount, Outcome}
+use Rattle.std.specs.Prelude.{Ok as Done}
 use Rattle.verdict.specs.Verdict.{verdict_of}
 use Rattle.verdict.specs.declared.Verdict.{Verdict}
 use Rattle.verdict.specs.declared.Verdict.TheVariants.{Ok, Mitigated, Collision}
 use Rattle.flags.specs.declared.Flags.{Flags}
 use Rattle.loan.specs.Loan.{Tables}
-use Rattle.finish.specs.declared.Finished.{Finished}
-use Rattle.finish.specs.declared.Outcome.{Outcome}
-use Rattle.finish.specs.declared.Outcome.TheVariants.{Done}
 use Rattle.claims.specs.Pieces.{Piece, bytes_of, hashed, loan_of_all, NoneRefused}
 use Rattle.claims.specs.Marked.{blocks_in, marked_at, NoneMarked, OneMarked}
 use Rattle.claims.proofs.Below.{any_below, none_below, some_below}
@@ -22,10 +21,10 @@ use Rattle.claims.proofs.Whole.{hashed-is}
 abbrev pub LeadTo : Bool → Bool → Verdict → Type 0
 LeadTo mark mitigate v = ◌≡◌ {A = Outcome} (Done (verdict_of mark mitigate)) (Done v)
 
-pub is_ok : (mark mitigate : Bool) → LeadTo mark mitigate Ok ↔ (mark ≡ false)
-is_ok false mitigate = (λ e. refl, λ k. refl)
-is_ok true true = (λ e. cc, λ k. cc)
-is_ok true false = (λ e. cc, λ k. cc)
+pub is-ok : (mark mitigate : Bool) → LeadTo mark mitigate Ok ↔ (mark ≡ false)
+is-ok false mitigate = (λ e. refl, λ k. refl)
+is-ok true true = (λ e. cc, λ k. cc)
+is-ok true false = (λ e. cc, λ k. cc)
 
 pub is-mitigated : (mark mitigate : Bool) → LeadTo mark mitigate Mitigated ↔ ((mark ≡ true) × (mitigate ≡ true))
 is-mitigated true true = (λ e. (refl, refl), λ k. refl)
@@ -44,12 +43,12 @@ module _ (f : Flags) (t : Tables) (ps : List Piece) (last : List ℕ) (ok : None
 
   verdict-is : (v : Verdict) → ((hashed f t ps last).outcome ≡ Done v) ↔ LeadTo (any_below test (blocks_in (bytes_of ps))) f.mitigate v
   verdict-is v =
-      let e = ap (λ (r : Finished). r.outcome) (hashed-is f t ps last ok) in
+      let e = ap (λ (r : FinishAccount). r.outcome) (hashed-is f t ps last ok) in
       (λ p. sym e ∙ p, λ p. e ∙ p)
 
   -- The verdict is ok exactly when no block is marked, padding included.
   pub ok-exactly : ((hashed f t ps last).outcome ≡ Done Ok) ↔ NoneMarked f (loan_of_all t ps last) (bytes_of ps)
-  ok-exactly = Iff.trans (verdict-is Ok) (Iff.trans (is_ok _ f.mitigate) (none_below test (blocks_in (bytes_of ps))))
+  ok-exactly = Iff.trans (verdict-is Ok) (Iff.trans (is-ok _ f.mitigate) (none_below test (blocks_in (bytes_of ps))))
 
   -- It is mitigated exactly when one is and mitigation is on.
   pub mitigated-exactly : ((hashed f t ps last).outcome ≡ Done Mitigated)

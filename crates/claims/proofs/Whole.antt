@@ -5,7 +5,7 @@ use mathlib.Core.List.{List, [], ◌∷◌}
 use Prim.Native.Nat.{ℕ, ◌/◌, ◌%◌, ◌≤◌}
 use native.Mathlib.Omega.{arith}
 use lib.ListN.{length}
-use Rattle.refusal.specs.declared.Refusal.TheVariants.{Nothing}
+use Rattle.std.specs.Prelude.{Ok, Ok as Done}
 use Rattle.verdict.specs.Verdict.{digest_size, verdict_of}
 use Rattle.fips.specs.Fips.{most_bytes, padded, digest_of}
 use Rattle.fips.specs.Tail.{tail_blocks}
@@ -19,7 +19,6 @@ use Rattle.hasher.specs.Hasher.{fresh_of}
 use Rattle.absorb.specs.Absorb.{absorbed}
 use Rattle.update.proofs.Absorbed.{fill-after}
 use Rattle.finish.specs.Finish.{last_chain, finished}
-use Rattle.finish.specs.declared.Outcome.TheVariants.{Done}
 use Rattle.finish.proofs.Finishing.{finish-finishing}
 use Rattle.one_shot.specs.Whole.{whole_chain}
 use Rattle.one_shot.proofs.Padded.{last-chain-lent}
@@ -33,25 +32,25 @@ use Rattle.claims.proofs.Kept.{fresh-sound, pieces-flags}
 
 module _ (f : Flags) (t : Tables) where
   -- the hasher after the updates
-  taking-is : (ps : List Piece) → (taking f t ps).refusal ≡ Nothing
-      → taking f t ps ≡ record { refusal = Nothing; hasher = absorbed (fresh_of f) (bytes_of ps) (lend t (piece_masks ps)) }
+  taking-is : (ps : List Piece) → (taking f t ps).refusal ≡ Ok tt
+      → taking f t ps ≡ record { refusal = (Ok tt); hasher = absorbed (fresh_of f) (bytes_of ps) (lend t (piece_masks ps)) }
   taking-is ps e = pieces-absorbed ps (fresh_of f) t (fresh-sound f).size (fresh-sound f).well e
 
   -- what is known of a message whose updates are not refused: its masks, its length and the fill that it leaves
-  pub masks-counted : (ps : List Piece) → (taking f t ps).refusal ≡ Nothing → uses_masks f ≡ true → length (piece_masks ps) ≡ length (bytes_of ps) / 64
+  pub masks-counted : (ps : List Piece) → (taking f t ps).refusal ≡ (Ok tt) → uses_masks f ≡ true → length (piece_masks ps) ≡ length (bytes_of ps) / 64
   masks-counted [] e u = refl
   masks-counted (p ∷ ps) e u =
       let a = pieces-taken p ps (fresh_of f) t (fresh-sound f).size e in
       let c = (taken-accepted (fresh_of f) (bytes_of (p ∷ ps)) (lend t (piece_masks (p ∷ ps))) a).counts u in
       omega arith
 
-  pub short-is : (ps : List Piece) → (taking f t ps).refusal ≡ Nothing → length (bytes_of ps) ≤ most_bytes
+  pub short-is : (ps : List Piece) → (taking f t ps).refusal ≡ (Ok tt) → length (bytes_of ps) ≤ most_bytes
   short-is [] e = omega arith
   short-is (p ∷ ps) e =
       let l = (pieces-taken p ps (fresh_of f) t (fresh-sound f).size e).fits in
       omega arith
 
-  pub fill_is : (ps : List Piece) → (taking f t ps).refusal ≡ Nothing → (taking f t ps).hasher.fill ≡ length (bytes_of ps) % 64
+  pub fill_is : (ps : List Piece) → (taking f t ps).refusal ≡ (Ok tt) → (taking f t ps).hasher.fill ≡ length (bytes_of ps) % 64
   fill_is ps e = rw (taking-is ps e) (fill-after (fresh_of f) (bytes_of ps) (lend t (piece_masks ps)) refl (omega arith) ∙ omega arith)
 
   module _ (ps : List Piece) (last : List ℕ) (ok : NoneRefused f t ps last) where
@@ -62,7 +61,7 @@ module _ (f : Flags) (t : Tables) where
         loan-accepted f (lend t last) (tail_blocks (length (bytes_of ps) % 64)) (rw (pieces-flags (fresh_of f) t ps, fill_is ps ok.updates) at a)
 
     -- the tables pass, as the finish looks at them
-    pub tables-pass : tables_refusal f t ≡ Nothing
+    pub tables-pass : tables_refusal f t ≡ Ok tt
     tables-pass = rw (pieces-flags (fresh_of f) t ps) at (finish-passes (taking f t ps).hasher digest_size (lend t last) ok.finish)
 
     last_chain_lem : last_chain (taking f t ps).hasher (lend t last) ≡ whole_chain f (bytes_of ps) (loan_of_all t ps last)

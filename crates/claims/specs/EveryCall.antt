@@ -1,5 +1,6 @@
 -- Demand 3 for one call: what its blocks are, and what its mark and its verdict go by.
-use Rattle.std.specs.Prelude.{◌≡◌, ◌⊎◌, ◌↔◌, Bool, true, false, List, ℕ}
+use Rattle.finish.specs.Finish.{Outcome}
+use Rattle.std.specs.Prelude.{◌≡◌, ◌⊎◌, ◌↔◌, Bool, true, false, List, ℕ, Ok as Done}
 use Rattle.verdict.specs.declared.Verdict.TheVariants.{Ok, Mitigated, Collision}
 use Rattle.step.specs.Step.{regs_of}
 use Rattle.fips.specs.Fips.{padding_for}
@@ -7,8 +8,6 @@ use Rattle.loan.specs.Loan.{Loan}
 use Rattle.hasher.specs.Hasher.{taken}
 use Rattle.hasher.specs.declared.Hasher.{Hasher}
 use Rattle.absorb.specs.Absorb.{stream_of}
-use Rattle.finish.specs.declared.Outcome.{Outcome}
-use Rattle.finish.specs.declared.Outcome.TheVariants.{Done}
 use Rattle.claims.specs.Message.{OneMetIn}
 
 -- the hasher was marked or, with detection on, a selected sibling meets a whole block of the call's stream

@@ -1,4 +1,5 @@
 -- Which blocks of a message are marked, and the hash in which a marked block is compressed twice more: 01, "One block".
+use Rattle.search.specs.Search.{is_marked, marking_place}
 use Rattle.std.specs.Prelude.{◌≡◌, Bool, true, false, ◌&&◌, List, ℕ, zero, suc, ◌*◌, ◌/◌, ◌<◌, length, get_or, take, drop}
 use Rattle.word.specs.Choice.{pick}
 use Rattle.step.specs.declared.Regs.{Regs}
@@ -15,11 +16,11 @@ selected_by f t block mask = selection_of (conditions_for f t.conditions) block 
 
 -- whether the block that meets the chaining words h is marked: never with detection off
 abbrev pub marked_by : Flags → Tables → Regs → List ℕ → ℕ → Bool
-marked_by f t h block mask = f.detect && (answer_of (mode_of f) t.vectors h block (selected_by f t block mask)).found.mark
+marked_by f t h block mask = f.detect && is_marked (answer_of (mode_of f) t.vectors h block (selected_by f t block mask)).found
 
 -- the place of the record that marks it, where one does
 abbrev pub place_by : Flags → Tables → Regs → List ℕ → ℕ → ℕ
-place_by f t h block mask = (answer_of (mode_of f) t.vectors h block (selected_by f t block mask)).found.place
+place_by f t h block mask = marking_place (answer_of (mode_of f) t.vectors h block (selected_by f t block mask)).found
 
 -- whether it is compressed twice more: it is marked, and mitigation is on
 abbrev pub again_by : Flags → Tables → Regs → List ℕ → ℕ → Bool

@@ -1,16 +1,14 @@
 -- 01's compare as it stood before request c. It is kept here alone, to say which of its answers changed.
+use Rattle.comparison.specs.Compare.{Compared, unless_refused}
 use Rattle.std.specs.Prelude.{◌≡◌, List, ℕ, eqb, length}
 use Rattle.word.specs.Choice.{pick}
 use Rattle.octets.specs.Octets.{same_bytes}
-use Rattle.refusal.specs.Refusal.{is_nothing}
 use Rattle.verdict.specs.declared.Verdict.{Verdict}
 use Rattle.verdict.specs.declared.Verdict.TheVariants.{Ok}
 use Rattle.sheet.specs.Sheet.{lookup_refusal, part_of}
 use Rattle.sheet.specs.Exactly.{Accepted, FirstRecord}
 use Rattle.comparison.specs.declared.Comparison.{Comparison}
 use Rattle.comparison.specs.declared.Comparison.TheVariants.{Match, Differs, Absent}
-use Rattle.comparison.specs.declared.Compared.{Compared}
-use Rattle.comparison.specs.declared.Compared.TheVariants.{Said, Refused}
 
 -- what the part that a lookup found said of a digest, whatever the verdict
 abbrev pub old_comparison_of : List ℕ → List ℕ → Comparison
@@ -19,7 +17,7 @@ old_comparison_of part digest = pick (eqb (length part) 0) Absent (pick (same_by
 -- what a comparison gave back, whatever the verdict
 unfoldable pub old_compared_of : List ℕ → List ℕ → List ℕ → Compared
 old_compared_of sheet code digest =
-    pick (is_nothing (lookup_refusal sheet code)) (Said (old_comparison_of (part_of sheet code) digest)) (Refused (lookup_refusal sheet code))
+    unless_refused (lookup_refusal sheet code) (old_comparison_of (part_of sheet code) digest)
 
 -- where an answer changes: nothing is refused, a record has the barcode, and the verdict is not ok
 abbrev pub Changes : List ℕ → List ℕ → Verdict → Type 0

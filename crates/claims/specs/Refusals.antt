@@ -1,8 +1,7 @@
 -- What the lines of 01's table of numbers say of a hasher, as facts, and which of them are those of the tables. What they say of a loan stands in
 -- loan/specs/Loan, of a table in table/specs/Good.
 use Rattle.std.specs.Prelude.{◌≡◌, true, false, ℕ, ◌≤◌, ◌<◌, get_or}
-use Rattle.refusal.specs.Refusal.{number_of, one_of}
-use Rattle.refusal.specs.declared.Refusal.{Refusal}
+use Rattle.refusal.specs.Refusal.{number_of, one_of, Checked}
 use Rattle.table.specs.Limits.{most_records}
 use Rattle.loan.specs.Loan.{both_numbers}
 use Rattle.hasher.specs.Hasher.{most_blocks}
@@ -21,5 +20,5 @@ pub record WellFormed (h : Hasher) : Type 0 where
   pub place_none : h.mark ≡ false → h.first.place ≡ 0
 
 -- a refusal by one of the numbers of the tables: 2 to 5, 11, 12 and 13
-abbrev pub ByTables : Refusal → Type 0
+abbrev pub ByTables : Checked → Type 0
 ByTables r = one_of both_numbers (number_of r) ≡ true

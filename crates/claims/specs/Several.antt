@@ -1,13 +1,12 @@
 -- Several messages on one hasher, and updates in place one after the other.
-use Rattle.std.specs.Prelude.{◌≡◌, List, [], ◌∷◌, ℕ, replicate}
-use Rattle.refusal.specs.declared.Refusal.{Refusal}
-use Rattle.refusal.specs.declared.Refusal.TheVariants.{Nothing}
+use Rattle.one_shot.specs.Whole.{WholeAccount}
+use Rattle.refusal.specs.Refusal.{Checked}
+use Rattle.std.specs.Prelude.{◌≡◌, List, [], ◌∷◌, ℕ, replicate, Ok}
 use Rattle.verdict.specs.Verdict.{digest_size}
 use Rattle.flags.specs.declared.Flags.{Flags}
 use Rattle.loan.specs.Loan.{Tables, lend}
 use Rattle.hasher.specs.declared.Hasher.{Hasher}
 use Rattle.finish.specs.Finish.{finished_reset, written_out}
-use Rattle.one_shot.specs.declared.Digested.{Digested}
 use Rattle.in_place.specs.InPlace.{InPlace}
 use Rattle.claims.specs.Pieces.{Piece, piecewise, hashed, NoneRefused}
 
@@ -18,13 +17,13 @@ pub record LentMessage : Type 0 where
   pub last : List ℕ
 
 -- its outcome, digest and first mark on a new hasher
-abbrev pub alone : Flags → LentMessage → Digested
+abbrev pub alone : Flags → LentMessage → WholeAccount
 alone f m =
     let r = hashed f m.tables m.pieces m.last in
     record { outcome = r.outcome; digest = r.digest; first = r.first }
 
 -- those of each on new hashers
-abbrev pub each_alone : Flags → List LentMessage → List Digested
+abbrev pub each_alone : Flags → List LentMessage → List WholeAccount
 each_alone f [] = []
 each_alone f (m ∷ ms) = alone f m ∷ each_alone f ms
 
@@ -34,7 +33,7 @@ AllTaken f [] = Unit
 AllTaken f (m ∷ ms) = NoneRefused f m.tables m.pieces m.last × AllTaken f ms
 
 -- those of each on one hasher: its updates, and a finish-and-reset into 20 bytes
-unfoldable pub one_after_other : Hasher → List LentMessage → List Digested
+unfoldable pub one_after_other : Hasher → List LentMessage → List WholeAccount
 one_after_other h [] = []
 one_after_other h (m ∷ ms) =
     let g = (piecewise h m.tables m.pieces).hasher in
@@ -43,14 +42,14 @@ one_after_other h (m ∷ ms) =
     ∷ one_after_other (finished_reset g digest_size l).hasher ms
 
 -- an update in place with a piece and, where it is not refused, the rest of the run, which leaves the refusal r and the hasher g
-pub record NextInPlace (h : Hasher) (t : Tables) (p : Piece) (Rest : Hasher → Type 0) (r : Refusal) (g : Hasher) : Type 0 where
-  pub answer : Refusal
+pub record NextInPlace (h : Hasher) (t : Tables) (p : Piece) (Rest : Hasher → Type 0) (r : Checked) (g : Hasher) : Type 0 where
+  pub answer : Checked
   pub left : Hasher
   pub call : InPlace h p.bytes (lend t p.masks) answer left
-  pub goes_on : answer ≡ Nothing → Rest left
-  pub ends : (answer ≡ Nothing → ⊥) → (g ≡ left) × (r ≡ answer)
+  pub goes_on : answer ≡ (Ok tt) → Rest left
+  pub ends : (answer ≡ (Ok tt) → ⊥) → (g ≡ left) × (r ≡ answer)
 
 -- updates in place, one for each piece; the first refusal ends them
-abbrev pub RunInPlace : Hasher → Tables → List Piece → Refusal → Hasher → Type 0
-RunInPlace h t [] r g = (g ≡ h) × (r ≡ Nothing)
+abbrev pub RunInPlace : Hasher → Tables → List Piece → Checked → Hasher → Type 0
+RunInPlace h t [] r g = (g ≡ h) × (r ≡ (Ok tt))
 RunInPlace h t (p ∷ ps) r g = NextInPlace h t p (λ k. RunInPlace k t ps r g) r g

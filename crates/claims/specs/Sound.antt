@@ -1,7 +1,6 @@
 -- The hashers that calls make, and the tables that they take.
-use Rattle.std.specs.Prelude.{◌≡◌, true, List, ℕ, ◌≤◌, length}
+use Rattle.std.specs.Prelude.{◌≡◌, true, List, ℕ, ◌≤◌, length, Ok}
 use Rattle.word.specs.Lists.{AllWords, AllBytes}
-use Rattle.refusal.specs.declared.Refusal.TheVariants.{Nothing}
 use Rattle.table.specs.Good.{GoodTable}
 use Rattle.flags.specs.declared.Flags.{Flags}
 use Rattle.loan.specs.Loan.{Tables, Loan, tables_refusal}
@@ -38,4 +37,4 @@ VectorsGood t = GoodTable t.vectors
 
 -- nothing is wrong with the tables that are lent, if the stream has a whole block: for no block they are not looked at
 abbrev pub PassFor : Flags → Loan → List ℕ → Type 0
-PassFor f l xs = 1 ≤ whole_blocks xs → tables_refusal f l.tables ≡ Nothing
+PassFor f l xs = 1 ≤ whole_blocks xs → tables_refusal f l.tables ≡ Ok tt

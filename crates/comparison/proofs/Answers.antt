@@ -1,17 +1,15 @@
 -- What an answer of a comparison does not hang on, and that its number is the lookup's. Assumes nothing.
-use mathlib.Core.Path.{◌≡◌, refl, sym}
-use mathlib.Core.Bool.{Bool, true, false}
+use mathlib.Core.Path.{◌≡◌, refl}
 use mathlib.Core.List.{List}
 use Prim.Native.Nat.{ℕ}
-use borrow.Author.Tests.{eqb-true}
-use Rattle.word.specs.Choice.{pick}
-use Rattle.refusal.specs.Refusal.{number_of, is_nothing}
+use Rattle.std.specs.Prelude.{Ok as Said, Err as Refused}
+use Rattle.refusal.specs.Refusal.{Checked, number_of}
 use Rattle.verdict.specs.declared.Verdict.{Verdict}
 use Rattle.verdict.specs.declared.Verdict.TheVariants.{Mitigated, Collision}
 use Rattle.sheet.specs.Sheet.{lookup_refusal, part_of}
-use Rattle.comparison.specs.Compare.{compared_number, comparison_of, compared_of}
+use Rattle.comparison.specs.Compare.{compared_number, unless_refused, comparison_of, compared_of}
+use Rattle.comparison.specs.declared.Comparison.{Comparison}
 use Rattle.comparison.specs.declared.Comparison.TheVariants.{Absent, Marked}
-use Rattle.comparison.specs.declared.Compared.TheVariants.{Said, Refused}
 use Rattle.comparison.proofs.Exactly.{answer-marked-exactly, absent-exactly}
 
 -- the digest does not matter to marked
@@ -30,9 +28,8 @@ marks-alike s c d = refl
 -- the number that a comparison gives back is the lookup's
 pub same_number : (s c : List ℕ) (v : Verdict) (d : List ℕ) → compared_number (compared_of s c v d) ≡ number_of (lookup_refusal s c)
 unfolding compared_of
-same_number s c v d = go (is_nothing (lookup_refusal s c)) refl
+same_number s c v d = go (lookup_refusal s c) (comparison_of (part_of s c) v d)
   where
-    go : (b : Bool) → is_nothing (lookup_refusal s c) ≡ b
-        → compared_number (pick b (Said (comparison_of (part_of s c) v d)) (Refused (lookup_refusal s c))) ≡ number_of (lookup_refusal s c)
-    go true e = sym (eqb-true (number_of (lookup_refusal s c)) 0 e)
-    go false e = refl
+    go : (r : Checked) (a : Comparison) → compared_number (unless_refused r a) ≡ number_of r
+    go (Said u) a = refl
+    go (Refused r) a = refl

@@ -7,22 +7,22 @@ use Prim.Native.Nat.{ℕ}
 use native.Mathlib.Omega.{arith}
 use lib.ListN.{length}
 use borrow.Author.Tests.{ltb-true, ltb-false, ne_eqb}
+use Rattle.std.specs.Prelude.{Ok as Said, Err as Refused}
 use Rattle.word.specs.Choice.{pick}
 use Rattle.word.proofs.Tests.{unless-true}
-use Rattle.refusal.specs.Refusal.{is_nothing}
+use Rattle.refusal.specs.Refusal.{Checked}
 use Rattle.refusal.specs.declared.Refusal.{Refusal}
 use Rattle.verdict.specs.declared.Verdict.{Verdict}
 use Rattle.verdict.specs.declared.Verdict.TheVariants.{Ok, Mitigated, Collision}
 use Rattle.octets.specs.Octets.{same_bytes}
 use Rattle.octets.proofs.Same.{same-exactly}
+use Rattle.refusal.proofs.Chains.{nothing_is}
 use Rattle.sheet.specs.Sheet.{digest_at, records_on, record_for, on_sheet, lookup_refusal}
 use Rattle.sheet.specs.Exactly.{Accepted, FirstRecord, NoRecord}
 use Rattle.sheet.proofs.Parts.{digest-at-length}
 use Rattle.sheet.proofs.Exactly.{first-record, no_record, accepted-exactly, part-of-first, part-of-none}
-use Rattle.comparison.specs.Compare.{says_marked, compared_of}
+use Rattle.comparison.specs.Compare.{Compared, says_marked, compared_of}
 use Rattle.comparison.specs.declared.Comparison.TheVariants.{Match, Differs, Absent, Marked}
-use Rattle.comparison.specs.declared.Compared.{Compared}
-use Rattle.comparison.specs.declared.Compared.TheVariants.{Said, Refused}
 
 -- a verdict says that a block was marked exactly when it is not ok
 pub says-marked-exactly : (v : Verdict) → (says_marked v ≡ true) ↔ (v ≡ Ok → ⊥)
@@ -37,7 +37,7 @@ unmarked-ok Collision h = absurd (true≢false h)
 
 -- what a sheet has for a barcode: a refusal, a first record, or none
 pub data Sought (s c : List ℕ) : Type 0 where
-  turned_away_lem : is_nothing (lookup_refusal s c) ≡ false → Sought s c
+  turned_away_lem : {r : Refusal} → lookup_refusal s c ≡ Refused r → Sought s c
   found : Accepted s c → (k : ℕ) → FirstRecord s c k → Sought s c
   missing : Accepted s c → NoRecord s c → Sought s c
 
@@ -48,9 +48,9 @@ sought s c = tested _ refl
     accepted a true e = found a (record_for s c) ((first-record s c (record_for s c)).0 (refl, ltb-true (record_for s c) (records_on s) e))
     accepted a false e = missing a ((no_record s c).0 (ltb-false (record_for s c) (records_on s) e))
 
-    tested : (t : Bool) → is_nothing (lookup_refusal s c) ≡ t → Sought s c
-    tested true e = accepted ((accepted-exactly s c).0 e) _ refl
-    tested false e = turned_away_lem e
+    tested : (r : Checked) → lookup_refusal s c ≡ r → Sought s c
+    tested (Said u) e = accepted ((accepted-exactly s c).0 (rw e)) _ refl
+    tested (Refused r) e = turned_away_lem e
 
 -- why a comparison gives the answer that it gives
 data Why (s c : List ℕ) (v : Verdict) (d : List ℕ) : Compared → Type 0 where
@@ -74,18 +74,21 @@ module _ {s c : List ℕ} {v : Verdict} {d : List ℕ} where
   of-absent (absent a n) = (a, n)
 
 module _ (s c : List ℕ) (v : Verdict) (d : List ℕ) where
+  accepted-is : Accepted s c → lookup_refusal s c ≡ Said tt
+  accepted-is a = nothing_is (lookup_refusal s c) ((accepted-exactly s c).1 a)
+
   -- the answer where a record is found, by whether a block was marked and whether its digest is d
   pub found-said : Accepted s c → (k : ℕ) → FirstRecord s c k
       → compared_of s c v d ≡ Said (pick (says_marked v) Marked (pick (same_bytes (digest_at s k) d) Match Differs))
   unfolding compared_of
   found-said a k f =
-      rw ((accepted-exactly s c).1 a, part-of-first s c a k f, ne_eqb (length (digest_at s k)) 0 (λ z. omega (arith, z, digest-at-length s k f.inside)))
+      rw (accepted-is a, part-of-first s c a k f, ne_eqb (length (digest_at s k)) 0 (λ z. omega (arith, z, digest-at-length s k f.inside)))
 
   pub none_said : Accepted s c → NoRecord s c → compared_of s c v d ≡ Said Absent
   unfolding compared_of
-  none_said a n = rw ((accepted-exactly s c).1 a, part-of-none s c n)
+  none_said a n = rw (accepted-is a, part-of-none s c n)
 
-  pub refused-said : is_nothing (lookup_refusal s c) ≡ false → compared_of s c v d ≡ Refused (lookup_refusal s c)
+  pub refused-said : {r : Refusal} → lookup_refusal s c ≡ Refused r → compared_of s c v d ≡ Refused r
   unfolding compared_of
   refused-said h = rw h
 
@@ -96,7 +99,7 @@ module _ (s c : List ℕ) (v : Verdict) (d : List ℕ) where
   why-found a k f false false h e = differs a k f (unmarked-ok v h) (λ g. true≢false (sym ((same-exactly (digest_at s k) d).1 g) ∙ e))
 
   why-by : Sought s c → Why s c v d (compared_of s c v d)
-  why-by (turned_away_lem h) = rw (refused-said h) (refused (lookup_refusal s c))
+  why-by (turned_away_lem h) = rw (refused-said h) (refused _)
   why-by (found a k f) = rw (found-said a k f) (why-found a k f _ _ refl refl)
   why-by (missing a n) = rw (none_said a n) (absent a n)
 

@@ -1,15 +1,14 @@
--- What a comparison with the sheet says. 01, "The barcode sheet and the program", as request c amends it.
-use Rattle.std.specs.Prelude.{Bool, true, false, List, [], ◌∷◌, ◌++◌, ℕ, ◌-◌, eqb, length, replicate}
+-- What a comparison with the sheet says.
+use Rattle.std.specs.Prelude.{Bool, true, false, List, [], ◌∷◌, ℕ, eqb, length, Result, Ok as Said, Err as Refused}
 use Rattle.word.specs.Choice.{pick}
-use Rattle.refusal.specs.Refusal.{number_of, is_nothing}
+use Rattle.refusal.specs.Refusal.{Checked, number}
+use Rattle.refusal.specs.declared.Refusal.{Refusal}
 use Rattle.verdict.specs.declared.Verdict.{Verdict}
 use Rattle.verdict.specs.declared.Verdict.TheVariants.{Ok, Mitigated, Collision}
 use Rattle.octets.specs.Octets.{same_bytes}
 use Rattle.sheet.specs.Sheet.{lookup_refusal, part_of}
 use Rattle.comparison.specs.declared.Comparison.{Comparison}
 use Rattle.comparison.specs.declared.Comparison.TheVariants.{Match, Differs, Absent, Marked}
-use Rattle.comparison.specs.declared.Compared.{Compared}
-use Rattle.comparison.specs.declared.Compared.TheVariants.{Said, Refused}
 
 -- the word that stands for an answer, in ASCII: `match`, `differs`, `absent`, `marked`
 abbrev pub comparison_word : Comparison → List ℕ
@@ -18,14 +17,14 @@ comparison_word Differs = 0x64 ∷ 0x69 ∷ 0x66 ∷ 0x66 ∷ 0x65 ∷ 0x72 ∷ 
 comparison_word Absent = 0x61 ∷ 0x62 ∷ 0x73 ∷ 0x65 ∷ 0x6E ∷ 0x74 ∷ []
 comparison_word Marked = 0x6D ∷ 0x61 ∷ 0x72 ∷ 0x6B ∷ 0x65 ∷ 0x64 ∷ []
 
--- the word in seven bytes, with zeros behind it
-abbrev pub comparison_bytes : Comparison → List ℕ
-comparison_bytes a = comparison_word a ++ replicate (7 - length (comparison_word a)) 0
+-- what a comparison gives back: an answer, or why there is none
+abbrev pub Compared : Type 0
+Compared = Result Comparison Refusal
 
--- the number that a comparison gives back, in the table of 01; 0 where it has an answer
+-- the number that a comparison gives back, in the table of docs/BEHAVIOUR.md; 0 where it has an answer
 abbrev pub compared_number : Compared → ℕ
 compared_number (Said a) = 0
-compared_number (Refused r) = number_of r
+compared_number (Refused r) = number r
 
 -- whether a verdict says that a block was marked
 abbrev pub says_marked : Verdict → Bool
@@ -41,7 +40,11 @@ comparison_of part verdict digest =
     (pick (same_bytes part digest) Match
     Differs))
 
+-- a lookup's refusal, else what is said
+abbrev pub unless_refused : Checked → Comparison → Compared
+unless_refused (Said u) a = Said a
+unless_refused (Refused r) a = Refused r
+
 -- what a comparison gives back: the refusal, else what the part found says
 unfoldable pub compared_of : List ℕ → List ℕ → Verdict → List ℕ → Compared
-compared_of sheet code verdict digest =
-    pick (is_nothing (lookup_refusal sheet code)) (Said (comparison_of (part_of sheet code) verdict digest)) (Refused (lookup_refusal sheet code))
+compared_of sheet code verdict digest = unless_refused (lookup_refusal sheet code) (comparison_of (part_of sheet code) verdict digest)

@@ -1,3 +1,4 @@
 pub mod Dropped
 pub mod Faults
 pub mod Survive
+pub mod Each

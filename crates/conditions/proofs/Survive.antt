@@ -142,7 +142,7 @@ no-conditions w = survive-all (holds_at w []) (clearing_at []) mask_bits
 
 -- tables with the same conditions, in any order and however often, leave the same vectors in every block
 module _ (w conditions others : List ℕ) where
-  holds_same : (k j : ℕ) → Same conditions k others j → holds_at w others j ≡ holds_at w conditions k
+  pub holds_same : (k j : ℕ) → Same conditions k others j → holds_at w others j ≡ holds_at w conditions k
   holds_same k j s = rw (s.first_word, s.first_bit, s.second_word, s.second-bit, s.wanted)
 
   among : AllIn conditions others

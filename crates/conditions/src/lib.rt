@@ -3,18 +3,17 @@
 // the value is another.
 #![tactic(auto)]
 
-ghost use Rattle.std.specs.Prelude.{◌≡◌, ◌+◌, ◌-◌, ◌*◌, ◌%◌, ◌^◌, ◌<◌, ◌≤◌, eqb, length};
+ghost use Rattle.std.specs.Prelude.{◌≡◌, ℕ, ◌%◌, ◌<◌, eqb, [], get_or, length};
 ghost use Rattle.std.specs.Int.Bits.{bit_xor};
 ghost use Rattle.word.specs.Choice.{pick};
-ghost use Rattle.table.specs.Limits.{mask_bits};
-ghost use Rattle.conditions.specs.Limits.{condition_words};
-ghost use Rattle.conditions.specs.Conditions.{conditions_in, dropped_at, dropped_of, surviving_of, fits_at, fault_from, whole_conditions, condition_fault};
+ghost use Rattle.conditions.specs.Conditions.{dropped_at, dropped_with, surviving_of, fits_at, condition_fault};
 ghost use Rattle.conditions.specs.Good.{Fits, GoodConditions};
 
 use refusal::Refusal;
 use word::sub;
 
-// Words in a condition, conditions in a table at most, words in a schedule, bits in a word, and a mask of all ones.
+// Words in a condition, conditions in a table at most, words in a schedule, bits in a word, and a mask of all ones. The specs name
+// the same limits on their own, so that another number here is refused.
 pub const CONDITION_WORDS: usize = 6;
 
 pub const MOST_CONDITIONS: usize = 512;
@@ -23,62 +22,33 @@ pub const SCHEDULE_WORDS: u32 = 80;
 
 pub const WORD_BITS: u32 = 32;
 
-pub const ALL: u32 = 0xFFFFFFFF;
+pub const ALL: u32 = u32::MAX;
 
 // Conditions looked at before the test whether a vector is left.
 pub const GROUP: usize = 8;
 
-// Whether condition k names words and bits that are there, and a value that a bit can have.
-fn fits_at(conditions: &[u32], k: usize) -> bool
-    requires { condition_words * k + condition_words ≤ length conditions.now }
-    ensures { result ≡ fits_at conditions.now k }
+// Whether a condition names words and bits that are there, and a value that a bit can have.
+fn fits(condition: &[u32; CONDITION_WORDS]) -> bool
+    ensures { result ≡ fits_at condition.now 0 }
 {
-    let at = CONDITION_WORDS * k;
-    if SCHEDULE_WORDS <= conditions[at] {
-        return false;
-    }
-    if WORD_BITS <= conditions[at + 1] {
-        return false;
-    }
-    if SCHEDULE_WORDS <= conditions[at + 2] {
-        return false;
-    }
-    if WORD_BITS <= conditions[at + 3] {
-        return false;
-    }
-    conditions[at + 4] < 2
-}
-
-// Whether n words can be a table of conditions.
-fn whole_conditions(n: usize) -> bool
-    ensures { result ≡ whole_conditions n }
-{
-    if CONDITION_WORDS * MOST_CONDITIONS < n {
-        return false;
-    }
-    n % CONDITION_WORDS == 0
-}
-
-// What is wrong with the first bad condition.
-fn first_bad(conditions: &[u32]) -> Refusal
-    ensures { result ≡ fault_from conditions.now 0 (conditions_in (length conditions.now)) }
-{
-    for k in 0..conditions.len() / CONDITION_WORDS {
-        if !fits_at(conditions, k) {
-            return Refusal::Condition(k);
-        }
-    }
-    Refusal::Nothing
+    let [i, p, j, q, wanted, _] = *condition;
+    i < SCHEDULE_WORDS && p < WORD_BITS && j < SCHEDULE_WORDS && q < WORD_BITS && wanted < 2
 }
 
 // What is wrong with a table of conditions: its length, or its first bad condition.
-pub fn condition_fault(conditions: &[u32]) -> Refusal
+pub fn condition_fault(conditions: &[u32]) -> Result<(), Refusal>
     ensures { result ≡ condition_fault conditions.now }
 {
-    if !whole_conditions(conditions.len()) {
-        return Refusal::ConditionLength;
+    let (each, rest) = conditions.as_chunks::<CONDITION_WORDS>();
+    if MOST_CONDITIONS < each.len() || !rest.is_empty() {
+        return Err(Refusal::ConditionLength);
     }
-    first_bad(conditions)
+    for (k, condition) in each.iter().enumerate() {
+        if !fits(condition) {
+            return Err(Refusal::Condition(k));
+        }
+    }
+    Ok(())
 }
 
 // The vectors that a condition drops: its clearing mask if the lowest bits of x and y don't differ as wanted, else none.
@@ -90,55 +60,41 @@ fn dropped_by(x: u32, y: u32, wanted: u32, clearing: u32) -> u32
     clearing & sub(0, (x ^ y ^ wanted) & 1)
 }
 
-// The vectors that condition k drops.
-fn dropped_at(w: &[u32; 80], conditions: &[u32], k: usize) -> u32
-    requires { (condition_words * k + condition_words ≤ length conditions.now) × Fits conditions.now k }
-    ensures { result ≡ dropped_at w.now conditions.now k }
+// The vectors that a condition drops.
+fn dropped_at(w: &[u32; 80], condition: &[u32; CONDITION_WORDS]) -> u32
+    requires { Fits condition.now 0 }
+    ensures { result ≡ dropped_at w.now condition.now 0 }
 {
-    let at = CONDITION_WORDS * k;
-    let i = conditions[at] as usize;
-    let j = conditions[at + 2] as usize;
-    dropped_by(
-        w[i] >> conditions[at + 1],
-        w[j] >> conditions[at + 3],
-        conditions[at + 4],
-        conditions[at + 5],
-    )
+    let [i, p, j, q, wanted, clearing] = *condition;
+    dropped_by(w[i as usize] >> p, w[j as usize] >> q, wanted, clearing)
 }
 
-// The vectors that the conditions below `to` drop, from those that the ones below `from` do.
-fn dropped_run(w: &[u32; 80], conditions: &[u32], from: usize, to: usize, before: u32) -> u32
-    requires { GoodConditions conditions.now × (from ≤ to) × (to ≤ conditions_in (length conditions.now)) × (before ≡ dropped_of w.now conditions.now from) }
-    ensures { result ≡ dropped_of w.now conditions.now to }
+// The vectors that some conditions drop, and those dropped before.
+fn dropped_with(w: &[u32; 80], before: u32, conditions: &[[u32; CONDITION_WORDS]]) -> u32
+    requires { (k : ℕ) → k < length conditions.now → Fits (get_or conditions.now k []) 0 }
+    ensures { result ≡ dropped_with w.now before conditions.now }
 {
     let mut d = before;
-    for k in from..to {
-        d = d | dropped_at(w, conditions, k);
+    for condition in conditions {
+        d |= dropped_at(w, condition);
     }
     d
 }
 
-// All vectors but those dropped.
-fn left(dropped: u32) -> u32
-    ensures { result ≡ 2 ^ mask_bits - 1 - dropped }
-{
-    ALL - dropped
-}
-
-// The vectors that survive the conditions.
+// The vectors that survive the conditions. The groups are arrays, so that the compiler writes out the looking at one. That the
+// conditions are good is a fact that callers hold and no type: where no block is filled they are not looked at, and may be bad.
 pub fn surviving(w: &[u32; 80], conditions: &[u32]) -> u32
     requires { GoodConditions conditions.now }
     ensures { result ≡ surviving_of w.now conditions.now }
 {
-    let n = conditions.len() / CONDITION_WORDS;
-    let mut k = 0;
+    let (each, _) = conditions.as_chunks::<CONDITION_WORDS>();
+    let (groups, rest) = each.as_chunks::<GROUP>();
     let mut d = 0u32;
-    while GROUP <= n - k {
+    for group in groups {
         if d == ALL {
             return 0;
         }
-        d = dropped_run(w, conditions, k, k + GROUP, d);
-        k += GROUP;
+        d = dropped_with(w, d, group);
     }
-    left(dropped_run(w, conditions, k, n, d))
+    ALL - dropped_with(w, d, rest)
 }

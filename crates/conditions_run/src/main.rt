@@ -7,75 +7,55 @@ mod message;
 mod tried;
 
 use cases::{
-    conditions_of, fill_from, from_field, front, line_at, next_line, number_at, page, read,
-    say_title,
+    conditions_of, each_case, field, file_filling, file_text, from_field, front, number_at,
 };
 use conditions::condition_fault;
-use message::{published, say_control};
-use printing::{say, say_accepted};
+use loan::Lent;
+use message::{say_control, say_published};
+use printing::Said;
 use std::io;
 use std::io::{BufWriter, Write};
-use table_file::file_words;
+use table_file::{MOST_WORDS, file_words};
 use tried::say_block;
 
+// Bytes of the published file, and words of its conditions.
+const MESSAGE: usize = 320;
+
+const CONDITIONS: usize = 936;
+
 // What is wrong with the first words of 513 conditions, of which a case changes two.
-fn say_fault<W: Write>(out: &mut W, line: &[u8]) -> io::Result<()> {
-    let c = conditions_of(line, 2);
-    say(out, from_field(line, 6))?;
-    say(out, b": ")?;
-    say_accepted(out, condition_fault(front(&c, number_at(line, 1))))?;
-    say(out, b"\n")
+fn say_fault<W: Write>(out: &mut W, line: &str) -> io::Result<()> {
+    let conditions = conditions_of(line, 2);
+    let fault = condition_fault(front(&conditions, number_at(line, 1)));
+    writeln!(out, "{}: {}", from_field(line, 6), Said(fault))
 }
 
-// A line of the cases: `#` begins a comment, `=` a title.
-fn one<W: Write>(
-    out: &mut W,
-    line: &[u8],
-    m: &[u8],
-    table: &[u32],
-    conditions: &[u32],
-) -> io::Result<()> {
-    if line.len() == 0 {
-        return Ok(());
-    }
-    match line[0] {
-        b'f' => say_fault(out, line),
-        b'b' => say_block(out, line, m, table, conditions),
-        b'c' => say_control(out, line),
-        b'p' => published(out, line, m, table, conditions),
-        b'=' => say_title(out, line),
+// A case by its letter, with the published file and what is lent for it: its vectors and its conditions, and no masks.
+fn play<W: Write>(out: &mut W, line: &str, m: &[u8], lent: Lent<'_>) -> io::Result<()> {
+    match field(line, 0) {
+        "f" => say_fault(out, line),
+        "b" => say_block(out, line, m, lent),
+        "c" => say_control(out, line),
+        "p" => say_published(out, line, m, lent),
         _ => Ok(()),
     }
 }
 
-fn each<W: Write>(
-    out: &mut W,
-    text: &[u8],
-    m: &[u8],
-    table: &[u32],
-    conditions: &[u32],
-) -> io::Result<()> {
-    let mut at = 0;
-    while at < text.len() {
-        one(out, line_at(text, at), m, table, conditions)?;
-        at = next_line(text, at);
-    }
-    Ok(())
-}
-
-// The cases, with the published file, its vectors and its conditions.
 fn main(rt: HostRuntime) -> io::Result<()> {
     let mut out = BufWriter::new(rt.alloc(), io::writer(&rt))?;
-    let mut text = page();
-    let mut m = [0u8; 320];
-    let mut vectors = [0u8; 10496];
-    let mut records = [0u8; 3744];
-    let n = read(&rt, &mut out, b"cases.txt", &mut text)?;
-    fill_from(&rt, &mut out, b"shattered-1.first320.bin", &mut m)?;
-    fill_from(&rt, &mut out, b"real-table.bin", &mut vectors)?;
-    fill_from(&rt, &mut out, b"conditions.bin", &mut records)?;
+    let text = file_text(&rt, &mut out, "cases.txt")?;
+    let message = file_filling(&rt, &mut out, "shattered-1.first320.bin", MESSAGE)?;
+    let vectors = file_filling(&rt, &mut out, "real-table.bin", 4 * MOST_WORDS)?;
+    let file = file_filling(&rt, &mut out, "conditions.bin", 4 * CONDITIONS)?;
     let table = file_words(&vectors);
-    let conditions = file_words(&records);
-    each(&mut out, &text[..n], &m, &table, front(&conditions, 936))?;
+    let records = file_words(&file);
+    let lent = Lent {
+        table: &table,
+        conditions: front(&records, CONDITIONS),
+        masks: &[],
+    };
+    each_case(&text, &mut out, |out, line| {
+        play(out, line, &message, lent)
+    })?;
     out.flush()
 }

@@ -6,17 +6,18 @@ use Prim.Native.Nat.{ℕ, ◌<◌}
 use lib.ListN.{length}
 use Rattle.step.specs.declared.Regs.{Regs}
 use Rattle.table.specs.Table.{records_in}
+use Rattle.search.specs.Search.{is_marked, marking_place}
 use Rattle.search.specs.Ended.{Ended, hit, miss}
 use Rattle.search.specs.declared.Found.{Found}
 use Rattle.search.proofs.Ended.{found-ended}
 use Rattle.detect.specs.Detect.{answer_of}
 use Rattle.detect.specs.declared.Mode.{Mode}
 
-inside : {selected marks : ℕ → Bool} {n : ℕ} {f : Found} → Ended selected marks n 0 f → f.mark ≡ true → f.place < n
+inside : {selected marks : ℕ → Bool} {n : ℕ} {f : Found} → Ended selected marks n 0 f → is_marked f ≡ true → marking_place f < n
 inside (hit p a b s m none) e = b
 inside (miss none) e = absurd (false≢true e)
 
 pub answer-place : (mode : Mode) (table : List ℕ) (h : Regs) (block : List ℕ) (mask : ℕ)
-    → (answer_of mode table h block mask).found.mark ≡ true → (answer_of mode table h block mask).found.place < records_in (length table)
+    → is_marked (answer_of mode table h block mask).found ≡ true → marking_place (answer_of mode table h block mask).found < records_in (length table)
 unfolding answer_of
 answer-place mode table h block mask = inside (found-ended mode.reduced table h _ mask)

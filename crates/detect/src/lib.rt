@@ -1,22 +1,22 @@
 // One block with collision detection: compressed, searched for a vector that marks it, and mitigated; and the one-block entry.
 #![tactic(auto)]
 
-ghost use Rattle.std.specs.Prelude.{◌≡◌, ◌&&◌, length};
+ghost use Rattle.std.specs.Prelude.{◌≡◌, ◌&&◌};
 ghost use Rattle.word.specs.Choice.{pick};
 ghost use Rattle.block.specs.Compress.{states_of};
 ghost use Rattle.conditions.specs.Good.{GoodConditions};
 ghost use Rattle.search.specs.Marks.{found_in};
-ghost use Rattle.detect.specs.Detect.{twice_more, selection_of, answer_of, refused_block, one_block_of};
+ghost use Rattle.detect.specs.Detect.{twice_more, selection_of, answer_of, one_block_of, block_handed};
 
 use block::{States, compression_states, compression_w};
 use conditions::surviving;
-use refusal::{Refusal, is_nothing};
-use search::{Found, search};
-use step::{Regs, five_of, regs_of};
+use refusal::Refusal;
+use search::{Compressed, Found};
+use step::Regs;
 use table::table_fault;
 
 // How a marked block is dealt with, and what marks one.
-#[derive(Clone, Copy)]
+#[derive(Clone, Copy, Debug, PartialEq, Eq)]
 pub struct Mode {
     // The output of a marked block is compressed twice more.
     pub mitigate: bool,
@@ -25,16 +25,15 @@ pub struct Mode {
 }
 
 // What compressing a block with detection gives.
-#[derive(Clone, Copy)]
+#[derive(Clone, Copy, Debug, PartialEq, Eq)]
 pub struct Answer {
     pub words: Regs,
     pub found: Found,
 }
 
 // What the one-block entry gives.
-#[derive(Clone, Copy)]
+#[derive(Clone, Copy, Debug, PartialEq, Eq)]
 pub struct OneBlock {
-    pub refusal: Refusal,
     pub words: [u32; 5],
     pub found: Found,
 }
@@ -43,36 +42,35 @@ pub struct OneBlock {
 fn mitigated(mark: bool, mitigate: bool, out: Regs, w: &[u32; 80]) -> Regs
     ensures { result ≡ pick (mark && mitigate) (twice_more out w.now) out }
 {
-    if !mark {
-        return out;
+    if mark && mitigate {
+        compression_w(compression_w(out, w), w)
+    } else {
+        out
     }
-    if !mitigate {
-        return out;
-    }
-    compression_w(compression_w(out, w), w)
 }
 
 // What the search finds among the selected vectors. Where conditions select, most blocks have none left, and a walk through the
-// whole table would cost them more than a fifth of their time.
+// whole table would cost them more than a fifth of their time. Only a block that is searched is put together for it.
 fn found_among(
+    start: Regs,
+    schedule: &[u32; 80],
+    states: States,
     reduced: bool,
     table: &[u32],
-    h: Regs,
-    s: States,
-    w: &[u32; 80],
     selected: u32,
 ) -> Found
-    requires { s ≡ states_of h w.now }
-    ensures { result ≡ found_in reduced table.now h w.now selected }
+    requires { states ≡ states_of start schedule.now }
+    ensures { result ≡ found_in reduced table.now start schedule.now selected }
 {
     if selected == 0 {
-        return Found {
-            mark: false,
-            place: 0,
-            tried: 0,
-        };
+        return Found { by: None, tried: 0 };
     }
-    search(reduced, table, h, s, w, selected)
+    let block = Compressed {
+        start,
+        schedule,
+        states,
+    };
+    block.search(reduced, table, selected)
 }
 
 // One block compressed with detection, and tried with those vectors of the mask that survive the conditions.
@@ -81,56 +79,38 @@ pub fn compress(
     table: &[u32],
     conditions: &[u32],
     h: Regs,
-    block: &[u8],
+    block: &[u8; 64],
     mask: u32,
 ) -> Answer
-    requires block_len { length block.now ≡ 64 }
-    requires good_conditions { GoodConditions conditions.now }
+    requires { GoodConditions conditions.now }
     ensures { result ≡ answer_of mode table.now h block.now (selection_of conditions.now block.now mask) }
 {
     let mut w = [0u32; 80];
-    let s = compression_states(h, block, &mut w);
-    let out = s.out;
+    let states = compression_states(h, block, &mut w);
     let selected = mask & surviving(&w, conditions);
-    let found = found_among(mode.reduced, table, h, s, &w, selected);
+    let found = found_among(h, &w, states, mode.reduced, table, selected);
     Answer {
-        words: mitigated(found.mark, mode.mitigate, out, &w),
+        words: mitigated(found.by.is_some(), mode.mitigate, states.out, &w),
         found,
     }
 }
 
 // The one-block entry: it knows no conditions.
-pub fn one_block(words: [u32; 5], block: &[u8], table: &[u32], mask: u32, mode: Mode) -> OneBlock
-    ensures { result ≡ one_block_of words block.now table.now mask mode }
+#[tactic(auto, using(crate::proofs::Selection::one_block_answered), unfolding(crate::specs::Detect::one_block_of))]
+pub fn one_block(
+    words: [u32; 5],
+    block: &[u8],
+    table: &[u32],
+    mask: u32,
+    mode: Mode,
+) -> Result<OneBlock, Refusal>
+    ensures { result ≡ block_handed (one_block_of words block.now table.now mask mode) }
 {
-    if block.len() != 64 {
-        return refused(Refusal::Size);
-    }
-    let fault = table_fault(table);
-    if !is_nothing(fault) {
-        return refused(fault);
-    }
-    let a = compress(mode, table, &table[0..0], regs_of(words), block, mask);
-    let found = a.found;
-    let five = five_of(a.words);
-    OneBlock {
-        refusal: Refusal::Nothing,
-        words: five,
-        found,
-    }
-}
-
-// A refusal: no mark, and zeros.
-fn refused(r: Refusal) -> OneBlock
-    ensures { result ≡ refused_block r }
-{
-    OneBlock {
-        refusal: r,
-        words: [0u32; 5],
-        found: Found {
-            mark: false,
-            place: 0,
-            tried: 0,
-        },
-    }
+    let block = block.as_array::<64>().ok_or(Refusal::Size)?;
+    table_fault(table)?;
+    let answer = compress(mode, table, &[], words.into(), block, mask);
+    Ok(OneBlock {
+        words: answer.words.into(),
+        found: answer.found,
+    })
 }

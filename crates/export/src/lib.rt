@@ -1,7 +1,8 @@
 // The calls for programs in C and Rust, as include/purserumble.h declares them. A slice passes as a pointer and a length.
 // Where a caller breaks the header's agreement on lengths, marks, flags and verdicts, a call returns 255 and changes
 // nothing: the caller is told so instead of being trapped. Only what stands in this crate gets into the static
-// library, so each call has its name here and its work in the crates below.
+// library, so each call has its name here and its work in the crates below. C passes no struct of slices and no struct of
+// settings: that is why the parameters are many and single here, and the crates below take them together.
 #![tactic(auto)]
 
 ghost use Rattle.std.specs.Prelude.{◌≡◌, [], ◌∷◌};
@@ -12,10 +13,13 @@ ghost use Rattle.lent_finish.specs.LentFinish.{finish_call, finish_reset_call};
 ghost use Rattle.lent_table.specs.LentTable.{block_call, one_shot_call, table_call, conditions_call};
 ghost use Rattle.lent_sheet.specs.LentSheet.{lookup_call, compare_call};
 
+use detect::Mode;
+use layout::HasherSlices;
 use lent_finish::{finish_and_reset_lent, finish_lent};
 use lent_hasher::{new_lent, reset_lent, update_lent};
 use lent_sheet::{compare_lent, lookup_lent};
 use lent_table::{condition_fault_lent, one_block_lent, one_shot_lent, table_fault_lent};
+use loan::Lent;
 
 #[unsafe(no_mangle)]
 pub extern "C" fn purserumble_one_block(
@@ -30,7 +34,8 @@ pub extern "C" fn purserumble_one_block(
 ) -> u32
     ensures { left result (after.new ∷ answer.new ∷ []) ≡ block_call words.now block.now table.now mask (record { mitigate = mitigate; reduced = reduced }) after.old answer.old }
 {
-    one_block_lent(words, block, table, mask, mitigate, reduced, after, answer)
+    let mode = Mode { mitigate, reduced };
+    one_block_lent(words, block, table, mask, mode, after, answer)
 }
 
 // Where a caller begins: a hasher of zeros is well formed too, but is no start of a message.
@@ -43,7 +48,12 @@ pub extern "C" fn purserumble_new(
 ) -> u32
     ensures { left result (words.new ∷ pending.new ∷ state.new ∷ []) ≡ new_call flags words.old pending.old state.old }
 {
-    new_lent(flags, words, pending, state)
+    let mut slices = HasherSlices {
+        words,
+        pending,
+        state,
+    };
+    new_lent(flags, &mut slices)
 }
 
 #[unsafe(no_mangle)]
@@ -59,9 +69,17 @@ pub extern "C" fn purserumble_update(
 ) -> u32
     ensures { left result (words.new ∷ pending.new ∷ state.new ∷ answer.new ∷ []) ≡ update_call words.old pending.old state.old bytes.now (loan_of table.now conditions.now masks.now) answer.old }
 {
-    update_lent(
-        words, pending, state, bytes, table, conditions, masks, answer,
-    )
+    let mut slices = HasherSlices {
+        words,
+        pending,
+        state,
+    };
+    let lent = Lent {
+        table,
+        conditions,
+        masks,
+    };
+    update_lent(&mut slices, bytes, lent, answer)
 }
 
 #[unsafe(no_mangle)]
@@ -73,7 +91,12 @@ pub extern "C" fn purserumble_reset(
 ) -> u32
     ensures { left result (words.new ∷ pending.new ∷ state.new ∷ answer.new ∷ []) ≡ reset_call words.old pending.old state.old answer.old }
 {
-    reset_lent(words, pending, state, answer)
+    let mut slices = HasherSlices {
+        words,
+        pending,
+        state,
+    };
+    reset_lent(&mut slices, answer)
 }
 
 // The hasher is lent for reading only: a finish hands it back as given.
@@ -90,9 +113,12 @@ pub extern "C" fn purserumble_finish(
 ) -> u32
     ensures { left result (digest.new ∷ answer.new ∷ []) ≡ finish_call words.now pending.now state.now digest.old (loan_of table.now conditions.now masks.now) answer.old }
 {
-    finish_lent(
-        words, pending, state, digest, table, conditions, masks, answer,
-    )
+    let lent = Lent {
+        table,
+        conditions,
+        masks,
+    };
+    finish_lent(words, pending, state, digest, lent, answer)
 }
 
 #[unsafe(no_mangle)]
@@ -108,7 +134,17 @@ pub extern "C" fn purserumble_finish_and_reset(
 ) -> u32
     ensures { left result (words.new ∷ pending.new ∷ state.new ∷ out.new ∷ answer.new ∷ []) ≡ finish_reset_call words.old pending.old state.old out.old (loan_of table.now conditions.now masks.now) answer.old }
 {
-    finish_and_reset_lent(words, pending, state, out, table, conditions, masks, answer)
+    let mut slices = HasherSlices {
+        words,
+        pending,
+        state,
+    };
+    let lent = Lent {
+        table,
+        conditions,
+        masks,
+    };
+    finish_and_reset_lent(&mut slices, out, lent, answer)
 }
 
 #[unsafe(no_mangle)]

@@ -1,12 +1,11 @@
 -- What is known of a finish that is not refused, and that a finish of which this is known is not. Assumes nothing.
-use mathlib.Core.Path.{◌≡◌, sym, ap, ◌∙◌}
-use mathlib.Core.Bool.{Bool, true}
+use mathlib.Core.Path.{◌≡◌}
+use mathlib.Core.Bool.{true}
 use Prim.Native.Nat.{ℕ}
 use borrow.Author.Tests.{eqb-true, eq-eqb, not-false}
 use lib.Dec.{eqb, lit<}
-use Rattle.refusal.specs.Refusal.{is_nothing}
-use Rattle.refusal.specs.declared.Refusal.{Refusal}
-use Rattle.refusal.specs.declared.Refusal.TheVariants.{Nothing, HasherForm, Size}
+use Rattle.std.specs.Prelude.{Err, Ok}
+use Rattle.refusal.specs.declared.Refusal.TheVariants.{HasherForm, Size}
 use Rattle.refusal.proofs.Passed.{passed}
 use Rattle.verdict.specs.Verdict.{digest_size}
 use Rattle.conditions.specs.Good.{GoodConditions}
@@ -18,24 +17,20 @@ use Rattle.hasher.specs.Hasher.{well_formed}
 use Rattle.hasher.specs.declared.Hasher.{Hasher}
 use Rattle.finish.specs.Finish.{finish_refusal}
 
--- what a test whether r is nothing says of the meaning that r equals
-pub tested : {r s : Refusal} {b t : Bool} → r ≡ s → b ≡ is_nothing r → b ≡ t → is_nothing s ≡ t
-tested e f g = ap is_nothing (sym e) ∙ sym f ∙ g
-
 pub record Finishing (h : Hasher) (size : ℕ) (l : Loan) : Type 0 where
   pub well : well_formed h ≡ true
   pub sized : size ≡ digest_size
-  pub loan : loan_refusal h.flags l (tail_blocks h.fill) ≡ Nothing
+  pub loan : loan_refusal h.flags l (tail_blocks h.fill) ≡ Ok tt
 
 module _ (h : Hasher) (size : ℕ) (l : Loan) where
-  pub finish-finishing : finish_refusal h size l ≡ Nothing → Finishing h size l
+  pub finish-finishing : finish_refusal h size l ≡ (Ok tt) → Finishing h size l
   unfolding finish_refusal
   finish-finishing e =
-      let p = passed _ HasherForm _ (lit< tt) e in
-      let q = passed _ Size _ (lit< tt) p.1 in
+      let p = passed _ (Err HasherForm) _ (lit< tt) e in
+      let q = passed _ (Err Size) _ (lit< tt) p.1 in
       record { well = not-false (well_formed h) p.0; sized = eqb-true size digest_size (not-false (eqb size digest_size) q.0); loan = q.1 }
 
-  pub finishing-finish : Finishing h size l → finish_refusal h size l ≡ Nothing
+  pub finishing-finish : Finishing h size l → finish_refusal h size l ≡ Ok tt
   unfolding finish_refusal
   finishing-finish a = rw (a.well, eq-eqb size digest_size a.sized, a.loan)
 

@@ -1,64 +1,57 @@
 // What a case gives: a table and a message, which stand in files, and a mask for each block.
-ghost use Rattle.std.specs.Prelude.{◌≡◌};
-ghost use Rattle.table_file.specs.File.{most_words, file_words};
+ghost use Rattle.std.specs.Prelude.{◌≡◌, ◌<◌};
 ghost use Rattle.first_run.specs.Given.{masks_of};
 
-use cases::{field, fill_from, number_at, word_field};
-use std::io;
+use cases::{field, file_filling, number_at, word_field};
+use std::alloc::AllocGlobal;
 use std::io::Write;
 use std::rt::Files;
+use std::{array, io};
 use table_file::{MOST_WORDS, file_words};
 
-// Bytes in the longest message.
-pub(crate) const MOST_BYTES: usize = 448;
+// Bytes of the longest message.
+const MOST_MESSAGE: usize = 448;
 
-// The words of a table file's bytes.
-fn words_of(bytes: &[u8; 10496]) -> [u32; MOST_WORDS]
-    ensures { result ≡ file_words bytes.now most_words }
+// The first bytes of the file that field i names, as many as the field behind it says; none where those are more than `most`.
+fn bytes_of<R: Files + AllocGlobal, W: Write>(
+    rt: &R,
+    out: &mut W,
+    line: &str,
+    i: usize,
+    most: usize,
+) -> io::Result<Vec<u8>>
+    requires { i < 32 }
 {
-    file_words(bytes)
+    let n = number_at(line, i + 1);
+    if n > most {
+        return Ok(Vec::new(rt.alloc()));
+    }
+    file_filling(rt, out, field(line, i), n)
 }
 
 // The words of the table file that field 1 names, of as many bytes as field 2 says.
-pub(crate) fn table_of<R: Files, W: Write>(
+pub(crate) fn table_of<R: Files + AllocGlobal, W: Write>(
     rt: &R,
     out: &mut W,
-    line: &[u8],
+    line: &str,
 ) -> io::Result<[u32; MOST_WORDS]> {
-    let mut bytes = [0u8; 10496];
-    let n = number_at(line, 2);
-    if n <= 10496 {
-        fill_from(rt, out, field(line, 1), &mut bytes[0..n])?;
-    }
-    Ok(words_of(&bytes))
+    Ok(file_words(&bytes_of(rt, out, line, 1, 4 * MOST_WORDS)?))
 }
 
-// The first bytes of the file that field 12 names, as many as field 13 says, and zeros behind them.
-pub(crate) fn message_of<R: Files, W: Write>(
+// The first bytes of the file that field 12 names, as many as field 13 says, and zeros behind them, up to the size of field 14.
+pub(crate) fn message_of<R: Files + AllocGlobal, W: Write>(
     rt: &R,
     out: &mut W,
-    line: &[u8],
-) -> io::Result<[u8; MOST_BYTES]> {
-    let mut m = [0u8; MOST_BYTES];
-    let n = number_at(line, 13);
-    if n <= MOST_BYTES {
-        fill_from(rt, out, field(line, 12), &mut m[0..n])?;
-    }
-    Ok(m)
+    line: &str,
+) -> io::Result<Vec<u8>> {
+    let mut message = bytes_of(rt, out, line, 12, MOST_MESSAGE)?;
+    message.resize(number_at(line, 14).min(MOST_MESSAGE), 0)?;
+    Ok(message)
 }
 
 // The masks of fields 4 to 11, one for each block.
-pub(crate) fn masks_of(line: &[u8]) -> [u32; 8]
+pub(crate) fn masks_of(line: &str) -> [u32; 8]
     ensures { result ≡ masks_of line.now }
 {
-    [
-        word_field(line, 4),
-        word_field(line, 5),
-        word_field(line, 6),
-        word_field(line, 7),
-        word_field(line, 8),
-        word_field(line, 9),
-        word_field(line, 10),
-        word_field(line, 11),
-    ]
+    array::from_fn(|k| word_field(line, 4 + k))
 }

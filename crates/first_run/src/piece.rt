@@ -1,71 +1,54 @@
 // A piece of a message, with the masks of the blocks that it fills.
-ghost use Rattle.std.specs.Prelude.{◌≡◌, ◌≤◌, length};
-ghost use Rattle.first_run.specs.Piece.{masks_for, last_masks, piece_of};
+ghost use Rattle.std.specs.Prelude.{◌≡◌, ◌≤◌, length, Result};
+ghost use Rattle.refusal.specs.declared.Refusal.{Refusal};
+ghost use Rattle.loan.specs.Loan.{loan_in};
+ghost use Rattle.hasher.specs.Hasher.{hasher_handed};
+ghost use Rattle.hasher.specs.declared.Hasher.{Hasher};
+ghost use Rattle.update.specs.Update.{updated};
+ghost use Rattle.first_run.specs.Piece.{loan_for, last_loan, piece_of};
 
 use cases::front;
 use fips::tail_blocks;
 use hasher::Hasher;
-use in_place::through;
-use loan::masks_from;
-use update::update;
+use loan::Lent;
+use refusal::Refusal;
 
-// The masks of the blocks that a message fills from one place to another.
-fn masks_for(masks: &[u32], from: usize, to: usize) -> &[u32]
+// What is lent for the blocks that a message fills from one place to another.
+fn lent_for(lent: Lent<'_>, from: usize, to: usize) -> Lent<'_>
     requires { from ≤ to }
-    ensures { result.now ≡ masks_for masks.now from to }
+    ensures { loan_in result ≡ loan_for (loan_in lent.entry) from to }
 {
-    front(masks_from(masks, from / 64), to / 64 - from / 64)
+    let later = lent.later(from / 64);
+    Lent {
+        masks: front(later.masks, to / 64 - from / 64),
+        ..later
+    }
 }
 
-// The masks of the last blocks of a message of n bytes.
-pub(crate) fn last_masks(masks: &[u32], n: usize) -> &[u32]
-    ensures { result.now ≡ last_masks masks.now n }
+// What is lent for the last blocks of a message of n bytes.
+pub(crate) fn last_lent(lent: Lent<'_>, n: usize) -> Lent<'_>
+    ensures { loan_in result ≡ last_loan (loan_in lent.entry) n }
 {
-    front(masks_from(masks, n / 64), tail_blocks(n % 64))
+    let later = lent.later(n / 64);
+    Lent {
+        masks: front(later.masks, tail_blocks(n % 64)),
+        ..later
+    }
 }
 
-// The hasher after a piece, which is an update. Where it is refused the hasher is as it was.
-pub(crate) fn piece(
+// The hasher after a piece, by either form of an update. Where that is refused the hasher is as it was.
+pub(crate) fn piece<F: FnOnce(Hasher, &[u8], Lent<'_>) -> Result<Hasher, Refusal>>(
+    update: F,
     h: Hasher,
     m: &[u8],
     from: usize,
     to: usize,
-    table: &[u32],
-    conditions: &[u32],
-    masks: &[u32],
+    lent: Lent<'_>,
 ) -> Hasher
-    requires { (from ≤ to) × (to ≤ length m.now) }
-    ensures { result ≡ piece_of h m.now from to table.now conditions.now masks.now }
+    requires inside { (from ≤ to) × (to ≤ length m.now) }
+    requires callable { F.IsAlwaysCallable update }
+    requires updates { (g : Hasher) (bytes : _) (l : _) (r : Result Hasher Refusal) → F.post update g bytes l r → r ≡ hasher_handed (updated g bytes.now (loan_in l)) }
+    ensures { result ≡ piece_of h m.now from to (loan_in lent.entry) }
 {
-    let u = update(
-        h,
-        &m[from..to],
-        table,
-        conditions,
-        masks_for(masks, from, to),
-    );
-    u.hasher
-}
-
-// The same where the hasher lies.
-pub(crate) fn piece_in_place(
-    h: Hasher,
-    m: &[u8],
-    from: usize,
-    to: usize,
-    table: &[u32],
-    conditions: &[u32],
-    masks: &[u32],
-) -> Hasher
-    requires { (from ≤ to) × (to ≤ length m.now) }
-    ensures { result ≡ piece_of h m.now from to table.now conditions.now masks.now }
-{
-    let u = through(
-        h,
-        &m[from..to],
-        table,
-        conditions,
-        masks_for(masks, from, to),
-    );
-    u.hasher
+    update(h, &m[from..to], lent_for(lent, from, to)).unwrap_or(h)
 }

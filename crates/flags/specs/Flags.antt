@@ -1,4 +1,4 @@
--- A hasher's flags: 01, "The hasher", with 02's request d.
+-- A hasher's flags (docs/BEHAVIOUR.md).
 use Rattle.std.specs.Prelude.{Bool, true, false, ◌&&◌}
 use Rattle.word.specs.Choice.{pick}
 use Rattle.flags.specs.declared.Flags.{Flags}

@@ -2,10 +2,10 @@
 #![tactic(auto)]
 
 ghost use Rattle.std.specs.Prelude.{◌≡◌};
-ghost use Rattle.flags.specs.Flags.{is_lent, is_conditions, uses_masks, uses_conditions, defaults, with_detect, with_mitigate, with_masks, masks_of, conditions_of, with_reduced};
+ghost use Rattle.flags.specs.Flags.{uses_masks, uses_conditions, defaults, with_detect, with_mitigate, with_masks, masks_of, conditions_of, with_reduced};
 
 // Which vectors a block is tried with: all of them, those of the mask lent for it, or those that survive the lent conditions.
-#[derive(Clone, Copy)]
+#[derive(Clone, Copy, Debug, PartialEq, Eq)]
 pub enum Masks {
     All,
     Lent,
@@ -13,7 +13,7 @@ pub enum Masks {
 }
 
 // What the Rust's Builder holds.
-#[derive(Clone, Copy)]
+#[derive(Clone, Copy, Debug, PartialEq, Eq)]
 pub struct Flags {
     pub detect: bool,
     pub mitigate: bool,
@@ -51,23 +51,19 @@ impl Flags {
     }
 
     // Whether a block is tried only with the vectors of its mask.
-    pub fn use_ubc(self, on: bool) -> Flags
+    pub fn use_ubc(mut self, on: bool) -> Flags
         ensures { result ≡ with_masks self (masks_of on) }
     {
-        if on {
-            return with_masks(self, Masks::Lent);
-        }
-        with_masks(self, Masks::All) // masks off
+        self.masks = if on { Masks::Lent } else { Masks::All };
+        self
     }
 
     // Whether a block is tried only with the vectors that survive the lent conditions.
-    pub fn use_conditions(self, on: bool) -> Flags
+    pub fn use_conditions(mut self, on: bool) -> Flags
         ensures { result ≡ with_masks self (conditions_of on) }
     {
-        if on {
-            return with_masks(self, Masks::Conditions);
-        }
-        with_masks(self, Masks::All) // conditions off
+        self.masks = if on { Masks::Conditions } else { Masks::All };
+        self
     }
 
     // Whether a sibling that starts where the block starts marks it.
@@ -79,58 +75,16 @@ impl Flags {
     }
 }
 
-// The flags with another masks setting.
-fn with_masks(f: Flags, masks: Masks) -> Flags
-    ensures { result ≡ with_masks f masks }
-{
-    Flags {
-        detect: f.detect,
-        mitigate: f.mitigate,
-        masks,
-        reduced: f.reduced,
-    }
-}
-
-// Whether the setting asks for one mask a block.
-fn is_lent(masks: Masks) -> bool
-    ensures { result ≡ is_lent masks }
-{
-    match masks {
-        Masks::All => false,
-        Masks::Lent => true,
-        Masks::Conditions => false,
-    }
-}
-
-// Whether the setting asks for conditions.
-fn is_conditions(masks: Masks) -> bool
-    ensures { result ≡ is_conditions masks }
-{
-    match masks {
-        Masks::All => false,
-        Masks::Lent => false,
-        Masks::Conditions => true,
-    }
-}
-
 // Whether the flags ask for lent masks.
 pub fn uses_masks(f: Flags) -> bool
     ensures { result ≡ uses_masks f }
 {
-    let masks = f.masks;
-    if f.detect {
-        return is_lent(masks);
-    }
-    false
+    f.detect && f.masks == Masks::Lent
 }
 
 // Whether the flags ask for lent conditions.
 pub fn uses_conditions(f: Flags) -> bool
     ensures { result ≡ uses_conditions f }
 {
-    let masks = f.masks;
-    if f.detect {
-        return is_conditions(masks);
-    }
-    false
+    f.detect && f.masks == Masks::Conditions
 }

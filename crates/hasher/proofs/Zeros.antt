@@ -2,7 +2,7 @@
 use mathlib.Core.Path.{◌≡◌, refl, ap, ◌∙◌}
 use mathlib.Core.Bool.{true, ◌&&◌, and_assoc}
 use mathlib.Core.List.{List, [], ◌∷◌}
-use Prim.Native.Nat.{ℕ, zero, suc, ◌+◌, ◌-◌, ◌≤◌, ◌<◌}
+use Prim.Native.Nat.{ℕ, zero, suc, ◌+◌, ◌≤◌, ◌<◌}
 use native.Mathlib.Numerals.{add-one}
 use borrow.Author.Tests.{eqb-true}
 use lib.Bits.{bit_or}
@@ -27,8 +27,8 @@ module _ (p : List ℕ) (i : ℕ) where
   zero_turn seen h =
       rw (drop-cons p i 0 h, zero-cons, or-none seen (get_or p i 0), add-one i) (and_assoc (eqb seen 0) (eqb (get_or p i 0) 0) (all_zero (drop (suc i) p)))
 
-  pub zero-end : length p ≤ i → all_zero (drop i p) ≡ true
-  zero-end h = rw (drop_of_length-le p h, zero-nil)
+  pub zero_end : length p ≤ i → all_zero (drop i p) ≡ true
+  zero_end h = rw (drop_of_length-le p h, zero-nil)
 
 -- what is all zero is a list of zeros, and the other way round
 pub zero-all : (xs : List ℕ) → all_zero xs ≡ true → xs ≡ replicate (length xs) 0

@@ -1,13 +1,15 @@
--- The hasher: when it is well formed, its chain, and its reset. 01, "The hasher".
-use Rattle.std.specs.Prelude.{Bool, true, ◌&&◌, List, [], ◌∷◌, ◌++◌, ℕ, ◌+◌, ◌-◌, ◌*◌, ◌^◌, leb, eqb, length, drop, replicate}
+-- The hasher: when it is well formed, its chain, and its reset.
+use Rattle.std.specs.Prelude.{Bool, true, ◌&&◌, List, [], ◌∷◌, ◌++◌, ℕ, ◌+◌, ◌-◌, ◌*◌, ◌^◌, leb, eqb, length, drop, replicate, Result, Ok, Err}
+use Rattle.std.specs.Result.{result_map_both}
 use Rattle.word.specs.Choice.{pick}
 use Rattle.step.specs.Step.{regs_of, five_of}
-use Rattle.refusal.specs.declared.Refusal.TheVariants.{Nothing, HasherForm}
+use Rattle.refusal.specs.Refusal.{Checked}
+use Rattle.refusal.specs.declared.Refusal.{Refusal}
+use Rattle.refusal.specs.declared.Refusal.TheVariants.{HasherForm}
 use Rattle.flags.specs.declared.Flags.{Flags}
 use Rattle.stream.specs.Fold.{first_chain, mark_fits}
 use Rattle.stream.specs.declared.Chain.{Chain}
 use Rattle.hasher.specs.declared.Hasher.{Hasher}
-use Rattle.hasher.specs.declared.Updated.{Updated}
 
 -- the largest block count: that of the longest message
 abbrev pub most_blocks : ℕ
@@ -51,8 +53,17 @@ hasher_at f c rest = hasher_with f c (zeroed rest) (length rest)
 abbrev pub fresh_of : Flags → Hasher
 fresh_of f = hasher_at f first_chain []
 
+-- the whole account of a call that moves a hasher on: what it refuses, and the hasher, which a refusal leaves as it was
+pub record UpdateAccount : Type 0 where
+  pub refusal : Checked
+  pub hasher : Hasher
+
+-- what a caller is handed of it: the hasher, or the refusal alone
+abbrev pub hasher_handed : UpdateAccount → Result Hasher Refusal
+hasher_handed a = result_map_both (λ _. a.hasher) (λ r. r) a.refusal
+
 -- what a reset gives: everything but the flags as at the start
-unfoldable pub reset_of : Hasher → Updated
+unfoldable pub reset_of : Hasher → UpdateAccount
 reset_of h =
-    pick (well_formed h) (record { refusal = Nothing; hasher = fresh_of h.flags })
-    (record { refusal = HasherForm; hasher = h })
+    pick (well_formed h) (record { refusal = Ok tt; hasher = fresh_of h.flags })
+    (record { refusal = Err HasherForm; hasher = h })

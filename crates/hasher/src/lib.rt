@@ -1,9 +1,9 @@
 // The hasher: what it holds between the pieces of a message, when it is well formed, and its reset.
 #![tactic(auto)]
 
-ghost use Rattle.std.specs.Prelude.{◌≡◌, ◌≤◌, drop};
+ghost use Rattle.std.specs.Prelude.{◌≡◌};
 ghost use Rattle.stream.specs.Fold.{mark_fits};
-ghost use Rattle.hasher.specs.Hasher.{all_zero, well_formed, chain_of, hasher_with, fresh_of, reset_of};
+ghost use Rattle.hasher.specs.Hasher.{all_zero, well_formed, chain_of, hasher_with, fresh_of, hasher_handed, reset_of};
 
 use flags::Flags;
 use refusal::Refusal;
@@ -14,7 +14,7 @@ use table::MOST_RECORDS;
 // The largest block count.
 pub const MOST_BLOCKS: u64 = 0x7FFFFFFFFFFFFF;
 
-#[derive(Clone, Copy)]
+#[derive(Clone, Copy, Debug, PartialEq, Eq)]
 pub struct Hasher {
     pub words: [u32; 5],
     // The bytes of the block that is not full yet, with zeros behind them.
@@ -25,13 +25,6 @@ pub struct Hasher {
     pub mark: bool,
     // Where the mark was first made; zeros without one.
     pub first: FirstMark,
-}
-
-// A refusal or none, and the hasher: changed only where nothing is refused.
-#[derive(Clone, Copy)]
-pub struct Updated {
-    pub refusal: Refusal,
-    pub hasher: Hasher,
 }
 
 impl Hasher {
@@ -54,16 +47,14 @@ impl Hasher {
     pub fn at(flags: Flags, c: Chain, pending: [u8; 64], fill: usize) -> Hasher
         ensures { result ≡ hasher_with flags c pending fill }
     {
-        let words = five_of(c.words);
-        let first = c.first;
         Hasher {
-            words,
+            words: five_of(c.words),
             pending,
             fill,
             blocks: c.blocks,
             flags,
             mark: c.mark,
-            first,
+            first: c.first,
         }
     }
 
@@ -71,82 +62,58 @@ impl Hasher {
     pub fn chain(self) -> Chain
         ensures { result ≡ chain_of self }
     {
-        let words = self.words;
-        let first = self.first;
         Chain {
-            words: regs_of(words),
+            words: regs_of(self.words),
             mark: self.mark,
-            first,
+            first: self.first,
             blocks: self.blocks,
         }
     }
 }
 
-// Whether every byte from `from` on is 0. All are looked at: with no way out of the loop the compiler takes many at a time, and in
-// a hasher that a call made all are 0.
-fn zero_from(p: [u8; 64], from: usize) -> bool
-    requires { from ≤ 64 }
-    ensures { result ≡ all_zero (drop from p) }
+// Whether every byte is 0. All are looked at: with no way out of the loop the compiler takes many at a time, and behind the pending
+// bytes of a hasher that a call made all are 0.
+#[tactic(auto, using(crate::proofs::Zeros::zero_turn))]
+fn all_zero(bytes: &[u8]) -> bool
+    ensures { result ≡ all_zero bytes.now }
 {
-    let mut seen = 0u8;
-    for i in from..64 {
-        seen = seen | p[i];
+    let mut seen = 0;
+    for byte in bytes {
+        seen |= *byte;
     }
     seen == 0
 }
 
 // Whether a mark fits where it was first made, as far as a hasher shows it.
+#[tactic(auto, unfolding(stream::specs::Fold::mark_fits))]
 fn mark_fits(detect: bool, mark: bool, first: FirstMark, blocks: u64) -> bool
     ensures { result ≡ mark_fits detect mark first blocks }
 {
     if mark {
-        if !detect {
-            return false;
-        }
-        if blocks <= first.block {
-            return false;
-        }
-        return first.place < MOST_RECORDS;
+        detect && first.block < blocks && first.place < MOST_RECORDS
+    } else {
+        first.block == 0 && first.place == 0
     }
-    if first.block != 0 {
-        return false;
-    }
-    first.place == 0
 }
 
 // Whether a hasher is well formed. No call makes one that is not.
+#[tactic(auto, unfolding(crate::specs::Hasher::well_formed))]
 pub fn well_formed(h: Hasher) -> bool
     ensures { result ≡ well_formed h }
 {
-    let fill = h.fill;
-    let pending = h.pending;
-    let flags = h.flags;
-    if 63 < fill {
-        return false;
-    }
-    if MOST_BLOCKS < h.blocks {
-        return false;
-    }
-    if !zero_from(pending, fill) {
-        return false;
-    }
-    let first = h.first;
-    mark_fits(flags.detect, h.mark, first, h.blocks)
+    h.fill <= 63
+        && h.blocks <= MOST_BLOCKS
+        && all_zero(&h.pending[h.fill..])
+        && mark_fits(h.flags.detect, h.mark, h.first, h.blocks)
 }
 
 // Everything but the flags as at the start.
-pub fn reset(h: Hasher) -> Updated
-    ensures { result ≡ reset_of h }
+#[tactic(auto, unfolding(crate::specs::Hasher::reset_of))]
+pub fn reset(h: Hasher) -> Result<Hasher, Refusal>
+    ensures { result ≡ hasher_handed (reset_of h) }
 {
-    let flags = h.flags;
-    if well_formed(h) {
-        return Updated {
-            refusal: Refusal::Nothing,
-            hasher: Hasher::new(flags),
-        };
+    if !well_formed(h) {
+        return Err(Refusal::HasherForm);
     }
-    Updated {
-        refusal: Refusal::HasherForm,
-        hasher: h,
-    }
+    Ok(Hasher::new(h.flags))
 }

@@ -2,14 +2,14 @@
 // data/cases.txt has the calls, the file stdout what the lines must be.
 #![tactic(auto)]
 
-ghost use Rattle.std.specs.Prelude.{◌≡◌, length};
-
 mod ended;
 mod line;
 mod marked;
 mod nist;
 
-use cases::{fill_from, front, line_at, next_line, number_at, page, read, say_title, word_field};
+use cases::{each_case, field, file_filling, file_text, front, number_at, word_field};
+use loan::Lent;
+use std::alloc::AllocGlobal;
 use std::io;
 use std::io::{BufWriter, Write};
 use std::rt::Files;
@@ -18,129 +18,71 @@ use table_file::{MOST_WORDS, file_words};
 // Masks for each block of the longest message.
 const MASKS: usize = 15626;
 
-// Bytes of the file with NIST's short messages.
+// Words in the control record, and bytes of the file with NIST's short messages.
+const CONTROL: usize = 82;
+
 const SHORT: usize = 3445;
 
-fn repeated(mask: u32) -> [u32; MASKS]
-    ensures { 15626 ≡ length result }
-{
-    [mask; MASKS]
-}
-
 // A case's masks: field 2 for every block, but for the block of field 3, which has field 4.
-fn masks_of(line: &[u8]) -> [u32; MASKS]
-    ensures { 15626 ≡ length result }
-{
-    let mut masks = repeated(word_field(line, 2));
-    let at = number_at(line, 3);
-    if at < MASKS {
-        masks[at] = word_field(line, 4);
-        return masks;
+fn masks_of(line: &str) -> [u32; MASKS] {
+    let mut masks = [word_field(line, 2); MASKS];
+    if let Some(mask) = masks.get_mut(number_at(line, 3)) {
+        *mask = word_field(line, 4);
     }
     masks
 }
 
-// A call by its letter, with a table and masks.
-fn call<R: Files, W: Write>(
+// A case by its letter, with what is lent for its message.
+fn call<R: Files + AllocGlobal, W: Write>(
     rt: &R,
     out: &mut W,
-    letter: u8,
-    line: &[u8],
-    short: &[u8; SHORT],
-    table: &[u32],
-    masks: &[u32],
+    line: &str,
+    short: &[u8],
+    lent: Lent<'_>,
 ) -> io::Result<()> {
-    match letter {
-        b'm' => line::text(out, line, table, masks),
-        b'x' => line::file(rt, out, line, table, masks),
-        b'l' => line::long(out, line, table, masks),
-        b'n' => nist::count(out, line, short, table, masks),
-        b's' => marked::stays(rt, out, line, table, masks),
+    match field(line, 0) {
+        "m" => line::text(out, line, lent),
+        "x" => line::file(rt, out, line, lent),
+        "l" => line::long(rt, out, line, lent),
+        "n" => nist::count(out, line, short, lent),
+        "s" => marked::stays(rt, out, line, lent),
         _ => Ok(()),
     }
 }
 
 // Field 1 has the words of the table: 82 for the control record, else it is the real one.
-fn call_on<R: Files, W: Write>(
+fn play<R: Files + AllocGlobal, W: Write>(
     rt: &R,
     out: &mut W,
-    letter: u8,
-    line: &[u8],
-    short: &[u8; SHORT],
+    line: &str,
+    short: &[u8],
     real: &[u32; MOST_WORDS],
-    control: &[u32; MOST_WORDS],
+    control: &[u32],
 ) -> io::Result<()> {
     let masks = masks_of(line);
-    if number_at(line, 1) == 82 {
-        call(rt, out, letter, line, short, front(control, 82), &masks)
-    } else {
-        call(rt, out, letter, line, short, real, &masks)
-    }
-}
-
-// A line of the cases: `#` begins a comment, `=` a title.
-fn one<R: Files, W: Write>(
-    rt: &R,
-    out: &mut W,
-    line: &[u8],
-    short: &[u8; SHORT],
-    real: &[u32; MOST_WORDS],
-    control: &[u32; MOST_WORDS],
-) -> io::Result<()> {
-    if line.len() == 0 {
-        return Ok(());
-    }
-    let letter = line[0];
-    match letter {
-        b'#' => Ok(()),
-        b'=' => say_title(out, line),
-        _ => call_on(rt, out, letter, line, short, real, control),
-    }
-}
-
-fn each<R: Files, W: Write>(
-    rt: &R,
-    out: &mut W,
-    text: &[u8],
-    short: &[u8; SHORT],
-    real: &[u32; MOST_WORDS],
-    control: &[u32; MOST_WORDS],
-) -> io::Result<()> {
-    let mut at = 0;
-    while at < text.len() {
-        one(rt, out, line_at(text, at), short, real, control)?;
-        at = next_line(text, at);
-    }
-    Ok(())
-}
-
-// The cases over two tables.
-fn with_tables<R: Files, W: Write>(
-    rt: &R,
-    out: &mut W,
-    text: &[u8],
-    short: &[u8; SHORT],
-) -> io::Result<()> {
-    let mut bytes = [0u8; 10496];
-    let mut record = [0u8; 328];
-    fill_from(rt, out, b"real-table.bin", &mut bytes)?;
-    fill_from(rt, out, b"control-table.bin", &mut record)?;
-    each(
-        rt,
-        out,
-        text,
-        short,
-        &file_words(&bytes),
-        &file_words(&record),
-    )
+    let lent = Lent {
+        table: if number_at(line, 1) == CONTROL {
+            control
+        } else {
+            real
+        },
+        conditions: &[],
+        masks: &masks,
+    };
+    call(rt, out, line, short, lent)
 }
 
 fn main(rt: HostRuntime) -> io::Result<()> {
     let mut out = BufWriter::new(rt.alloc(), io::writer(&rt))?;
-    let mut text = page();
-    let mut short = [0u8; SHORT];
-    let n = read(&rt, &mut out, b"cases.txt", &mut text)?;
-    fill_from(&rt, &mut out, b"short-messages.bin", &mut short)?;
-    with_tables(&rt, &mut out, &text[..n], &short)?;
+    let text = file_text(&rt, &mut out, "cases.txt")?;
+    let short = file_filling(&rt, &mut out, "short-messages.bin", SHORT)?;
+    let bytes = file_filling(&rt, &mut out, "real-table.bin", 4 * MOST_WORDS)?;
+    let record = file_filling(&rt, &mut out, "control-table.bin", 4 * CONTROL)?;
+    let real = file_words(&bytes);
+    let words = file_words(&record);
+    let control = front(&words, CONTROL);
+    each_case(&text, &mut out, |out, line| {
+        play(&rt, out, line, &short, &real, control)
+    })?;
     out.flush()
 }

@@ -9,8 +9,8 @@ use native.Mathlib.Nat.{lt_irrefl}
 use lib.Dec.{eqb}
 use lib.ListN.{length, replicate}
 use borrow.Author.Tests.{eq-eqb}
-use Rattle.refusal.specs.Refusal.{is_nothing}
-use Rattle.refusal.specs.declared.Refusal.{Refusal}
+use Rattle.std.specs.Prelude.{Ok, Err, is_ok}
+use Rattle.refusal.specs.Refusal.{Checked}
 use Rattle.verdict.specs.Verdict.{digest_size}
 use Rattle.flags.specs.Flags.{defaults}
 use Rattle.loan.specs.Loan.{Loan}
@@ -69,7 +69,7 @@ module _ (w p s : List ℕ) (lies : hasher_fits (length w) (length p) s ≡ true
   answer-refused digest l answer a n =
       let h = hasher_in w p s in
       let r = finish_refusal h (length digest) l in
-      rw (kept 4 answer a) (output-left w p s r (is_nothing r) refl (last_chain h l) h.flags.mitigate digest (rw (kept 4 answer a) at n))
+      rw (kept 4 answer a) (output-left w p s r (is_ok r) refl (last_chain h l) h.flags.mitigate digest (rw (kept 4 answer a) at n))
 
   -- So does a refused finish-and-reset, and the hasher as it was.
   pub finish-reset-refused : (out : List ℕ) (l : Loan) (answer : List ℕ) → length answer ≡ 4 → 0 < (finish_reset_call w p s out l answer).number
@@ -79,14 +79,14 @@ module _ (w p s : List ℕ) (lies : hasher_fits (length w) (length p) s ≡ true
       let h = hasher_in w p s in
       let r = finish_refusal h (length out) l in
       rw (kept 4 answer a)
-      (reset-left w p s r (is_nothing r) refl (last_chain h l) h.flags.mitigate (fresh_of h.flags) out lies (rw (kept 4 answer a) at n))
+      (reset-left w p s r (is_ok r) refl (last_chain h l) h.flags.mitigate (fresh_of h.flags) out lies (rw (kept 4 answer a) at n))
 
 -- what the one-shot form leaves, of a refusal r and the chain c
-digest_left_lem : (r : Refusal) (b : Bool) → is_nothing r ≡ b → (c : Chain) (m : Bool) (given before : List ℕ)
+digest_left_lem : (r : Checked) (b : Bool) → is_ok r ≡ b → (c : Chain) (m : Bool) (given before : List ℕ)
     → 0 < (digest_left (outcome_of r c m) (first_or r c) given before).number
     → (digest_left (outcome_of r c m) (first_or r c) given before).slices ≡ before ∷ refused_answer r ∷ []
-digest_left_lem r true i c m given before n = absurd (lt_irrefl 0 (rw i at n))
-digest_left_lem r false i c m given before n = rw i (rw i)
+digest_left_lem (Ok tt) b i c m given before n = absurd (lt_irrefl 0 n)
+digest_left_lem (Err r) b i c m given before n = refl
 
 -- So does a refused one-shot.
 pub one-shot-refused : (bytes digest : List ℕ) (l : Loan) (answer : List ℕ) → length digest ≡ digest_size → length answer ≡ 4
@@ -97,4 +97,4 @@ one-shot-refused bytes digest l answer d a n =
     let r = whole_refusal defaults (length bytes) l in
     let c = whole_chain defaults bytes l in
     let fits : (eqb (length digest) digest_size && eqb (length answer) 4) ≡ true = rw (eq-eqb (length digest) digest_size d, eq-eqb (length answer) 4 a) in
-    rw fits (digest_left_lem r (is_nothing r) refl c true (digest_or r c (replicate digest_size 0)) digest (rw fits at n))
+    rw fits (digest_left_lem r (is_ok r) refl c true (digest_or r c (replicate digest_size 0)) digest (rw fits at n))

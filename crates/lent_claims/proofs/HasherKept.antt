@@ -6,13 +6,12 @@ use Prim.Native.Nat.{ℕ, ◌<◌}
 use native.Mathlib.Nat.{lt_irrefl}
 use lib.Dec.{eqb}
 use lib.ListN.{length}
+use Rattle.std.specs.Prelude.{Err, Ok, is_ok}
 use Rattle.word.specs.Choice.{pick}
 use Rattle.word.proofs.Tests.{both_true}
-use Rattle.refusal.specs.Refusal.{is_nothing}
-use Rattle.refusal.specs.declared.Refusal.TheVariants.{Nothing, HasherForm}
+use Rattle.refusal.specs.declared.Refusal.TheVariants.{HasherForm}
 use Rattle.loan.specs.Loan.{Loan}
-use Rattle.hasher.specs.Hasher.{well_formed, fresh_of, reset_of}
-use Rattle.hasher.specs.declared.Updated.{Updated}
+use Rattle.hasher.specs.Hasher.{well_formed, fresh_of, reset_of, UpdateAccount}
 use Rattle.update.specs.Update.{updated}
 use Rattle.layout.specs.Layout.{flags_in, hasher_in, slices_of, hasher_fits, new_fits}
 use Rattle.answers.specs.Answers.{left, answer_pair, updated_left}
@@ -29,7 +28,7 @@ module _ (w p s : List ℕ) where
       (λ e n. absurd (lt_irrefl 0 n))
 
   -- an update that is refused hands its hasher back, and a reset too
-  updated-keeps : hasher_fits (length w) (length p) s ≡ true → (u : Updated) → (is_nothing u.refusal ≡ false → u.hasher ≡ hasher_in w p s)
+  updated-keeps : hasher_fits (length w) (length p) s ≡ true → (u : UpdateAccount) → (is_ok u.refusal ≡ false → u.hasher ≡ hasher_in w p s)
       → 0 < (updated_left u).number → Keeps (w ∷ p ∷ s ∷ []) (updated_left u)
   updated-keeps e u same n =
       (answer_pair 0 u.refusal ∷ [], ap (λ (xs : List (List ℕ)). xs ++ (answer_pair 0 u.refusal ∷ [])) (ap slices_of (same (some-refusal u.refusal n)) ∙ slices-back w p s e))
@@ -44,10 +43,10 @@ module _ (w p s : List ℕ) where
       (λ e. updated-keeps (both_true (hasher_fits (length w) (length p) s) (eqb (length answer) 2) e).0 (updated h bytes l) (λ n. rw n))
 
   -- what a reset gives, by whether the hasher is well formed
-  abbrev reset_by : Bool → Updated
-  reset_by b = pick b (record { refusal = Nothing; hasher = fresh_of (hasher_in w p s).flags }) (record { refusal = HasherForm; hasher = hasher_in w p s })
+  abbrev reset_by : Bool → UpdateAccount
+  reset_by b = pick b (record { refusal = (Ok tt); hasher = fresh_of (hasher_in w p s).flags }) (record { refusal = (Err HasherForm); hasher = hasher_in w p s })
 
-  reset-same : (b : Bool) → is_nothing (reset_by b).refusal ≡ false → (reset_by b).hasher ≡ hasher_in w p s
+  reset-same : (b : Bool) → is_ok (reset_by b).refusal ≡ false → (reset_by b).hasher ≡ hasher_in w p s
   reset-same true e = absurd (true≢false e)
   reset-same false e = refl
 

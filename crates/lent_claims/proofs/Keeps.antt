@@ -3,14 +3,13 @@ use mathlib.Core.Path.{◌≡◌, refl}
 use mathlib.Core.Bool.{Bool, true, false}
 use mathlib.Core.List.{List, [], ◌∷◌, ◌++◌}
 use Prim.Native.Nat.{ℕ, ◌<◌}
-use native.Mathlib.Omega.{arith}
-use borrow.Author.Tests.{ne_eqb}
-use Rattle.refusal.specs.Refusal.{number_of, place_of, is_nothing}
-use Rattle.refusal.specs.declared.Refusal.{Refusal}
-use Rattle.detect.specs.declared.OneBlock.{OneBlock}
+use native.Mathlib.Nat.{lt_irrefl}
+use Rattle.std.specs.Prelude.{Ok, Err, is_ok}
+use Rattle.refusal.specs.Refusal.{number_of, place_of, Checked}
+use Rattle.search.specs.Search.{is_marked, marking_place}
+use Rattle.detect.specs.Detect.{BlockAccount}
 use Rattle.stream.specs.declared.FirstMark.{FirstMark}
-use Rattle.finish.specs.Finish.{outcome_refusal}
-use Rattle.finish.specs.declared.Outcome.{Outcome}
+use Rattle.finish.specs.Finish.{outcome_refusal, Outcome}
 use Rattle.layout.specs.Layout.{bit_of}
 use Rattle.answers.specs.Answers.{Left, guarded, outcome_answer, block_left, digest_left}
 
@@ -24,13 +23,14 @@ pub guarded-keeps : (fits : Bool) (done : Left) (xs ys : List (List ℕ)) → (f
 guarded-keeps true done xs ys k n = k refl n
 guarded-keeps false done xs ys k n = (ys, refl)
 
-pub some-refusal : (r : Refusal) → 0 < number_of r → is_nothing r ≡ false
-some-refusal r n = ne_eqb (number_of r) 0 (λ e. absurd (omega (arith, e)))
+pub some-refusal : (r : Checked) → 0 < number_of r → is_ok r ≡ false
+some-refusal (Ok tt) n = absurd (lt_irrefl 0 n)
+some-refusal (Err r) n = refl
 
 -- what one block leaves on a refusal has the words that were there
-pub block-keeps : (o : OneBlock) (before : List ℕ) → 0 < (block_left o before).number → Keeps (before ∷ []) (block_left o before)
+pub block-keeps : (o : BlockAccount) (before : List ℕ) → 0 < (block_left o before).number → Keeps (before ∷ []) (block_left o before)
 block-keeps o before n =
-    ((bit_of o.found.mark ∷ o.found.place ∷ o.found.tried ∷ place_of o.refusal ∷ []) ∷ [], rw (some-refusal o.refusal n))
+    ((bit_of (is_marked o.found) ∷ marking_place o.found ∷ o.found.tried ∷ place_of o.refusal ∷ []) ∷ [], rw (some-refusal o.refusal n))
 
 -- what a digest's call leaves on a refusal has the bytes that were there
 pub digest-keeps : (o : Outcome) (f : FirstMark) (digest before : List ℕ) → 0 < (digest_left o f digest before).number

@@ -1,26 +1,28 @@
 -- What each call on a lent sheet gives back, and what it leaves in the memory lent to it.
-use Rattle.std.specs.Prelude.{◌&&◌, List, [], ◌∷◌, ℕ, eqb, length}
-use Rattle.refusal.specs.Refusal.{number_of}
-use Rattle.refusal.specs.declared.Refusal.{Refusal}
+use Rattle.std.specs.Prelude.{◌&&◌, List, [], ◌∷◌, ℕ, eqb, length, Ok as Said, Err as Refused}
+use Rattle.refusal.specs.Refusal.{number_of, Checked}
 use Rattle.verdict.specs.Verdict.{digest_size}
 use Rattle.sheet.specs.Sheet.{lookup_refusal, part_from, part_of}
-use Rattle.comparison.specs.Compare.{compared_number, compared_of}
+use Rattle.comparison.specs.Compare.{compared_number, compared_of, Compared}
+use Rattle.comparison.specs.declared.Comparison.{Comparison}
 use Rattle.comparison.specs.declared.Comparison.TheVariants.{Match, Differs, Absent, Marked}
-use Rattle.comparison.specs.declared.Compared.{Compared}
-use Rattle.comparison.specs.declared.Compared.TheVariants.{Said, Refused}
 use Rattle.layout.specs.Layout.{verdict_known, verdict_for}
 use Rattle.answers.specs.Answers.{Left, left, guarded}
 
--- the number of a comparison's answer, 0 on a refusal
+-- the number of a comparison's answer
+abbrev pub comparison_number : Comparison → ℕ
+comparison_number Match = 1
+comparison_number Differs = 2
+comparison_number Absent = 3
+comparison_number Marked = 4
+
+-- the same of what a comparison gives, 0 on a refusal
 abbrev pub comparison_in : Compared → ℕ
-comparison_in (Said Match) = 1
-comparison_in (Said Differs) = 2
-comparison_in (Said Absent) = 3
-comparison_in (Said Marked) = 4
+comparison_in (Said a) = comparison_number a
 comparison_in (Refused r) = 0
 
 -- what a lookup leaves: where the part begins, and its length
-abbrev pub part_left : Refusal → ℕ → ℕ → Left
+abbrev pub part_left : Checked → ℕ → ℕ → Left
 part_left r from size = left (number_of r) ((from ∷ size ∷ []) ∷ [])
 
 -- what a comparison leaves

@@ -2,47 +2,56 @@
 // and of one of conditions.
 #![tactic(auto)]
 
-ghost use Rattle.std.specs.Prelude.{◌≡◌, [], ◌∷◌};
+ghost use Rattle.std.specs.Prelude.{◌≡◌, [], ◌∷◌, length};
+ghost use Rattle.verdict.specs.Verdict.{digest_size};
 ghost use Rattle.loan.specs.Loan.{loan_of};
 ghost use Rattle.answers.specs.Answers.{left};
-ghost use Rattle.lent_table.specs.LentTable.{block_call, one_shot_call, fault_call, table_call, conditions_call};
+ghost use Rattle.lent_table.specs.LentTable.{block_call, conditions_call, digest_told, fault_call, one_shot_call, table_call};
 
-use answers::{BROKEN_AGREEMENT, leave_block, leave_digest, say};
+use answers::{BROKEN_AGREEMENT, leave_block, say, say_outcome};
 use conditions::condition_fault;
-use copies::words_in;
 use detect::{Mode, one_block};
-use layout::{block_fits, digest_fits};
-use one_shot::one_shot;
+use one_shot::{Digested, one_shot};
 use refusal::Refusal;
 use table::table_fault;
+use verdict::DIGEST_SIZE;
 
-// One block. C passes no struct of settings: mitigation and reduced rounds are truth values.
+// One block.
+#[tactic(auto, using(crate::proofs::Calls::block_left_lem), unfolding(crate::specs::LentTable::block_call))]
 pub fn one_block_lent(
     words: &[u32],
     block: &[u8],
     table: &[u32],
     mask: u32,
-    mitigate: bool,
-    reduced: bool,
+    mode: Mode,
     after: &mut [u32],
     answer: &mut [u64],
 ) -> u32
-    ensures { left result (after.new ∷ answer.new ∷ []) ≡ block_call words.now block.now table.now mask (record { mitigate = mitigate; reduced = reduced }) after.old answer.old }
+    ensures { left result (after.new ∷ answer.new ∷ []) ≡ block_call words.now block.now table.now mask mode after.old answer.old }
 {
-    if !block_fits(words.len(), after.len(), answer.len()) {
+    if after.len() != 5 || answer.len() != 4 {
         return BROKEN_AGREEMENT;
     }
-    let o = one_block(
-        words_in(words),
-        block,
-        table,
-        mask,
-        Mode { mitigate, reduced },
-    );
-    leave_block(after, answer, o)
+    let Ok(words) = words.try_into() else {
+        return BROKEN_AGREEMENT;
+    };
+    leave_block(after, answer, one_block(words, block, table, mask, mode))
+}
+
+// What the one-shot form leaves: the digest, where it is not refused, and an answer.
+fn leave_digest(digest: &mut [u8], answer: &mut [u64], digested: Result<Digested, Refusal>) -> u32
+    requires digest { length digest.old ≡ digest_size }
+    requires answer { length answer.old ≡ 4 }
+    ensures { left result (digest.new ∷ answer.new ∷ []) ≡ digest_told digested digest.old }
+{
+    if let Ok(d) = digested {
+        digest.copy_from_slice(&d.digest);
+    }
+    say_outcome(answer, digested.map(|d| (d.verdict, d.first)))
 }
 
 // A whole message with the default flags, a mask for each block of it, padding included. It knows no conditions.
+#[tactic(auto, using(crate::proofs::Calls::digest_left_lem), unfolding(crate::specs::LentTable::one_shot_call))]
 pub fn one_shot_lent(
     bytes: &[u8],
     digest: &mut [u8],
@@ -52,24 +61,21 @@ pub fn one_shot_lent(
 ) -> u32
     ensures { left result (digest.new ∷ answer.new ∷ []) ≡ one_shot_call bytes.now digest.old (loan_of table.now [] masks.now) answer.old }
 {
-    if !digest_fits(digest.len(), answer.len(), 4) {
+    if digest.len() != DIGEST_SIZE || answer.len() != 4 {
         return BROKEN_AGREEMENT;
     }
-    let s = one_shot(bytes, table, masks);
-    let d = s.digest;
-    let o = s.outcome;
-    let first = s.first;
-    leave_digest(digest, answer, d, o, first)
+    leave_digest(digest, answer, one_shot(bytes, table, masks))
 }
 
 // What is wrong with what is lent, said in an answer.
-fn say_fault(answer: &mut [u64], r: Refusal) -> u32
-    ensures { left result (answer.new ∷ []) ≡ fault_call r answer.old }
+#[tactic(auto, unfolding(crate::specs::LentTable::fault_call))]
+fn say_fault(answer: &mut [u64], checked: Result<(), Refusal>) -> u32
+    ensures { left result (answer.new ∷ []) ≡ fault_call checked answer.old }
 {
     if answer.len() != 2 {
         return BROKEN_AGREEMENT;
     }
-    say(answer, 0, r)
+    say(answer, 0, checked)
 }
 
 // What is wrong with a table.

@@ -9,13 +9,12 @@ use lib.Dec.{ltb, leb, eqb}
 use lib.ListN.{drop}
 use Rattle.word.specs.Choice.{pick}
 use Rattle.word.proofs.Tests.{of_either}
-use Rattle.refusal.specs.Refusal.{number_of}
+use Rattle.refusal.specs.Refusal.{number}
 use Rattle.refusal.proofs.Small.{number_small}
+use Rattle.std.specs.Prelude.{Err}
 use Rattle.verdict.specs.declared.Verdict.{Verdict}
 use Rattle.verdict.specs.declared.Verdict.TheVariants.{Ok, Mitigated, Collision}
-use Rattle.line.specs.Line.{space, newline, hex_digit, hex_of, decimal_of, verdict_text, refused_text, text_of, line_of}
-use Rattle.line.specs.declared.Saying.{Saying}
-use Rattle.line.specs.declared.Saying.TheVariants.{Verdict as Said, Refused, Unread}
+use Rattle.line.specs.Line.{Saying, Verdict as Said, Refused, Unread, space, newline, hex_digit, hex_of, decimal_of, verdict_text, refused_text, text_of, line_of}
 
 -- every byte is a space or above it, so none is a newline
 abbrev pub printed : List ℕ → Bool
@@ -42,7 +41,7 @@ unfolding verdict_text refused_text
 text-printed (Said Ok) d = hex-printed d
 text-printed (Said Mitigated) d = hex-printed d
 text-printed (Said Collision) d = hex-printed d
-text-printed (Refused r) d = decimal-printed (number_of r)
+text-printed (Refused r) d = decimal-printed (number r)
 text-printed Unread d = refl
 
 -- what a reader takes from a line: a verdict and a digest, or a number
@@ -52,7 +51,7 @@ pub data Told : Type 0 where
 
 abbrev pub told : Saying → List ℕ → Told
 told (Said v) d = verdict v d
-told (Refused r) d = refused (number_of r)
+told (Refused r) d = refused (number r)
 told Unread d = refused 16
 
 -- what a hex digit stands for
@@ -106,7 +105,7 @@ unfolding verdict_text refused_text
 line_read (Said Ok) d = ap (verdict Ok) (bytes_read_lem d)
 line_read (Said Mitigated) d = ap (verdict Mitigated) (bytes_read_lem d)
 line_read (Said Collision) d = ap (verdict Collision) (bytes_read_lem d)
-line_read (Refused r) d = ap refused (decimal-read (number_of r) _ refl (number_small r))
+line_read (Refused r) d = ap refused (decimal-read (number r) _ refl (number_small (Err r)))
 line_read Unread d = refl
 
 -- two equal lines tell the same

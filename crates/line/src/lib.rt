@@ -1,31 +1,56 @@
 // The line that the program writes.
 #![tactic(auto)]
 
-ghost use Rattle.std.specs.Prelude.{◌≡◌, [], ◌+◌, ◌/◌, ◌%◌, ◌≤◌, ◌<◌, length};
+ghost use Rattle.std.specs.Prelude.{◌≡◌, [], ◌++◌, ◌+◌, ◌≤◌, ◌<◌, length};
 ghost use Rattle.verdict.specs.Verdict.{verdict_word};
-ghost use Rattle.line.specs.Line.{hex_digit, hex_of, decimal_of, verdict_text, refused_text, ended, line_of, line_with, written};
+ghost use Rattle.arrayvec.specs.ArrayVec.{array_vec_len};
+ghost use Rattle.line.specs.Line.{hex_digit, hex_of, decimal_of, verdict_text, refused_text, failure_number, reply_of, line_for};
 
-use octets::store;
-use refusal::{Refusal, number};
-use verdict::Verdict;
+use arrayvec::ArrayVec;
+use refusal::Refusal;
+use verdict::{DIGEST_SIZE, Verdict};
 
 // The number of what could not be taken in.
 const UNREAD: u32 = 16;
 
-// What the program has to say.
-#[derive(Clone, Copy)]
-pub enum Saying {
-    Verdict(Verdict),
+// A line has 64 bytes at most, and no heap.
+pub type Line = ArrayVec<u8, 64>;
+
+// What the program says of a message that it read to its end.
+#[derive(Clone, Copy, Debug, PartialEq, Eq)]
+pub struct Said {
+    pub verdict: Verdict,
+    pub digest: [u8; DIGEST_SIZE],
+}
+
+// Why it says no verdict.
+#[derive(Clone, Copy, Debug, PartialEq, Eq)]
+pub enum Failure {
     Refused(Refusal),
     // An argument, the table file or the message could not be taken in.
     Unread,
 }
 
-// A line: the first len bytes.
-#[derive(Clone, Copy)]
-pub struct Line {
-    pub bytes: [u8; 64],
-    pub len: usize,
+impl Failure {
+    // Its number in the table of docs/BEHAVIOUR.md.
+    pub fn number(self) -> u32
+        ensures { result ≡ failure_number self }
+    {
+        match self {
+            Failure::Refused(refusal) => refusal.number(),
+            Failure::Unread => UNREAD,
+        }
+    }
+}
+
+impl From<Refusal> for Failure {
+    ghost use Rattle.line.specs.declared.Failure.{Failure};
+
+    ghost from_gives = { λ r e. e ≡ Failure.Refused r };
+
+    fn from(refusal: Refusal) -> Failure {
+        Failure::Refused(refusal)
+    }
 }
 
 // The digit of a number below 16.
@@ -33,122 +58,84 @@ fn hex_digit(n: u8) -> u8
     requires { n < 16 }
     ensures { result ≡ hex_digit n }
 {
-    if n < 10 {
-        return b'0' + n;
-    }
-    b'a' + (n - 10)
+    if n < 10 { b'0' + n } else { b'a' + (n - 10) }
 }
 
-// The digits of a byte's high and low half.
-fn high_digit(b: u8) -> u8
-    ensures { result ≡ hex_digit (b / 16) }
+// More bytes at a line's end.
+fn put(line: &mut Line, bytes: &[u8])
+    requires { array_vec_len line.old + length bytes.now ≤ 64 }
+    ensures { line.new.items ≡ line.old.items ++ bytes.now }
 {
-    hex_digit(b / 16)
+    line.try_extend_from_slice(bytes).unwrap();
 }
 
-fn low_digit(b: u8) -> u8
-    ensures { result ≡ hex_digit (b % 16) }
+// Two digits for each byte of a digest.
+fn put_hex(line: &mut Line, digest: [u8; DIGEST_SIZE])
+    requires { array_vec_len line.old ≤ 24 }
+    ensures { line.new.items ≡ line.old.items ++ hex_of digest }
 {
-    hex_digit(b % 16)
-}
-
-// Two digits for each byte.
-fn hex(digest: [u8; 20]) -> [u8; 40]
-    ensures { result ≡ hex_of digest }
-{
-    let mut text = [0u8; 40];
-    for i in 0..20 {
-        text[2 * i] = high_digit(digest[i]);
-        text[2 * i + 1] = low_digit(digest[i]);
-    }
-    text
-}
-
-// A line of no bytes.
-fn blank() -> Line
-    ensures { result ≡ line_with [] }
-{
-    Line {
-        bytes: [0u8; 64],
-        len: 0,
+    for byte in digest {
+        line.push(hex_digit(byte / 16));
+        line.push(hex_digit(byte % 16));
     }
 }
 
-// The line with more bytes after it.
-fn put(l: Line, s: &[u8]) -> Line
-    requires { l.len + length s.now ≤ 64 }
-    ensures { result ≡ written l s.now }
+// A number below 100: one digit or two, by hand, as a line takes bytes and no text.
+fn put_decimal(line: &mut Line, n: u32)
+    requires room { array_vec_len line.old ≤ 62 }
+    requires small { n < 100 }
+    ensures { line.new.items ≡ line.old.items ++ decimal_of n }
 {
-    let mut bytes = l.bytes;
-    let at = l.len;
-    store(&mut bytes, at, s, s.len());
-    Line {
-        bytes,
-        len: at + s.len(),
+    if n >= 10 {
+        line.push(b'0' + (n / 10) as u8);
+    }
+    line.push(b'0' + (n % 10) as u8);
+}
+
+// The word of a verdict.
+fn word(verdict: Verdict) -> &'static [u8]
+    ensures { result.now ≡ verdict_word verdict }
+{
+    match verdict {
+        Verdict::Ok => b"ok",
+        Verdict::Mitigated => b"mitigated",
+        Verdict::Collision => b"collision",
     }
 }
 
-// The line with the digits of a digest after it.
-fn put_hex(l: Line, digest: [u8; 20]) -> Line
-    requires { l.len ≤ 24 }
-    ensures { result ≡ written l (hex_of digest) }
+// The text of a verdict, in an empty line.
+#[tactic(auto, using(crate::proofs::Digits::hex_length), unfolding(crate::specs::Line::verdict_text))]
+fn put_said(line: &mut Line, said: Said)
+    requires { line.old.items ≡ [] }
+    ensures text { line.new.items ≡ verdict_text (verdict_word said.verdict) said.digest }
+    ensures short { array_vec_len line.new ≤ 50 }
 {
-    let text = hex(digest);
-    put(l, &text)
+    put(line, word(said.verdict));
+    put(line, b" ");
+    put_hex(line, said.digest);
 }
 
-// The line of a verdict whose word is given.
-fn verdict_line(word: &[u8], digest: [u8; 20]) -> Line
-    requires { length word.now ≤ 22 }
-    ensures { result ≡ line_with (ended (verdict_text word.now digest)) }
+// The text of a number that is refused, in an empty line.
+#[tactic(auto, unfolding(crate::specs::Line::refused_text))]
+fn put_refused(line: &mut Line, n: u32)
+    requires empty { line.old.items ≡ [] }
+    requires small { n < 100 }
+    ensures text { line.new.items ≡ refused_text n }
+    ensures short { array_vec_len line.new ≤ 50 }
 {
-    let a = put(blank(), word);
-    let b = put(a, b" ");
-    let c = put_hex(b, digest);
-    put(c, b"\n")
-}
-
-// The line with a number below 100 after it.
-fn put_decimal(l: Line, n: u32) -> Line
-    requires { (l.len ≤ 62) × (n < 100) }
-    ensures { result ≡ written l (decimal_of n) }
-{
-    if n < 10 {
-        let one = [b'0' + (n as u8)];
-        return put(l, &one);
-    }
-    let two = [b'0' + ((n / 10) as u8), b'0' + ((n % 10) as u8)];
-    put(l, &two)
-}
-
-// The line of a number that is refused.
-fn refused_line(n: u32) -> Line
-    requires { n < 100 }
-    ensures { result ≡ line_with (ended (refused_text n)) }
-{
-    let a = put(blank(), b"refused ");
-    let b = put_decimal(a, n);
-    put(b, b"\n")
-}
-
-// The line of a verdict.
-fn said_line(v: Verdict, digest: [u8; 20]) -> Line
-    ensures { result ≡ line_with (ended (verdict_text (verdict_word v) digest)) }
-{
-    match v {
-        Verdict::Ok => verdict_line(b"ok", digest),
-        Verdict::Mitigated => verdict_line(b"mitigated", digest),
-        Verdict::Collision => verdict_line(b"collision", digest),
-    }
+    put(line, b"refused ");
+    put_decimal(line, n);
 }
 
 // What the program writes.
-pub fn line_of(s: Saying, digest: [u8; 20]) -> Line
-    ensures { result ≡ line_with (line_of s digest) }
+pub fn line_of(reply: Result<Said, Failure>) -> Line
+    ensures { result.items ≡ line_for (reply_of reply) }
 {
-    match s {
-        Saying::Verdict(v) => said_line(v, digest),
-        Saying::Refused(r) => refused_line(number(r)),
-        Saying::Unread => refused_line(UNREAD),
+    let mut line = Line::new();
+    match reply {
+        Ok(said) => put_said(&mut line, said),
+        Err(failure) => put_refused(&mut line, failure.number()),
     }
+    put(&mut line, b"\n");
+    line
 }

@@ -9,12 +9,12 @@ use native.Mathlib.Omega.{arith}
 use borrow.Author.Tests.{eqb-true, eqb-false, eq-eqb, ne_eqb, not-true, not-false}
 use lib.Dec.{eqb, lit<}
 use lib.ListN.{length}
+use Rattle.std.specs.Prelude.{Err, Ok}
 use Rattle.word.specs.Choice.{pick}
 use Rattle.word.proofs.Tests.{both_true, of_either}
-use Rattle.refusal.specs.Refusal.{number_of, table_numbers, condition_numbers, one_of}
-use Rattle.refusal.specs.declared.Refusal.{Refusal}
-use Rattle.refusal.specs.declared.Refusal.TheVariants.{Nothing, MaskCount}
-use Rattle.refusal.proofs.Chains.{Decides, itself, later-exactly, later-is, inside-exactly, inside_is, nothing_is}
+use Rattle.refusal.specs.Refusal.{number_of, table_numbers, condition_numbers, one_of, Checked}
+use Rattle.refusal.specs.declared.Refusal.TheVariants.{MaskCount}
+use Rattle.refusal.proofs.Chains.{Decides, itself, later-exactly, later-is, inside-exactly, inside_is, nothing_is, passes}
 use Rattle.refusal.proofs.Numbers.{within, outside, apart, Among, InFront, in-front, first-of-0, first-of-own, first-of-behind, first-of-among, first-of-second, first-of-first}
 use Rattle.refusal.proofs.Passed.{passed}
 use Rattle.table.specs.Table.{table_fault}
@@ -44,22 +44,22 @@ no_block blocks =
     record { on = (eqb-true blocks 0, eq-eqb blocks 0); off = (λ e. let n = eqb-false blocks 0 e in omega (arith, n), λ n. ne_eqb blocks 0 (λ z. omega arith)) }
 
 -- what is nothing where it is looked at is nothing
-in_either : {b : Bool} {P Q : Type 0} → Decides b P Q → (r : Refusal) → (Q → r ≡ Nothing) → pick b Nothing r ≡ Nothing
+in_either : {b : Bool} {P Q : Type 0} → Decides b P Q → (r : Checked) → (Q → r ≡ (Ok tt)) → pick b (Ok tt) r ≡ Ok tt
 in_either {b = true} d r g = refl
 in_either {b = false} d r g = g (d.off.0 refl)
 
 pub record AcceptedLoan (f : Flags) (l : Loan) (blocks : ℕ) : Type 0 where
   pub counts : WellCounted f l blocks
-  pub good : 1 ≤ blocks → tables_refusal f l.tables ≡ Nothing
+  pub good : 1 ≤ blocks → tables_refusal f l.tables ≡ Ok tt
 
 module _ (f : Flags) (l : Loan) (blocks : ℕ) where
-  pub loan-accepted : loan_refusal f l blocks ≡ Nothing → AcceptedLoan f l blocks
+  pub loan-accepted : loan_refusal f l blocks ≡ (Ok tt) → AcceptedLoan f l blocks
   unfolding loan_refusal
   loan-accepted e =
-      let r = passed _ MaskCount _ (lit< tt) e in
-      record { counts = (masks-right f (length l.masks) blocks).0 r.0; good = λ n. sym (later-is (no_block blocks) Nothing _ n) ∙ r.1 }
+      let r = passed _ (Err MaskCount) _ (lit< tt) e in
+      record { counts = (masks-right f (length l.masks) blocks).0 r.0; good = λ n. sym (later-is (no_block blocks) (Ok tt) _ n) ∙ r.1 }
 
-  pub accepted-loan : AcceptedLoan f l blocks → loan_refusal f l blocks ≡ Nothing
+  pub accepted-loan : AcceptedLoan f l blocks → loan_refusal f l blocks ≡ Ok tt
   unfolding loan_refusal
   accepted-loan a =
       rw ((masks-right f (length l.masks) blocks).1 a.counts)
@@ -78,19 +78,19 @@ masks-decide f l blocks =
     }
 
 -- A table, asked for or not: its numbers only where it is, and none where it is good.
-module _ (on : Bool) (fault : Refusal) (ns : List ℕ) (none : one_of ns 0 ≡ false) (numbers : Among (0 ∷ ns) fault) (Good : Type 0) (good : (number_of fault ≡ 0) ↔ Good) where
-  looked-among : Among (0 ∷ ns) (pick on fault Nothing)
-  looked-among = of_either (Among (0 ∷ ns)) on fault Nothing numbers refl
+module _ (on : Bool) (fault : Checked) (ns : List ℕ) (none : one_of ns 0 ≡ false) (numbers : Among (0 ∷ ns) fault) (Good : Type 0) (good : (number_of fault ≡ 0) ↔ Good) where
+  looked-among : Among (0 ∷ ns) (pick on fault (Ok tt))
+  looked-among = of_either (Among (0 ∷ ns)) on fault (Ok tt) numbers refl
 
-  looked-0 : (number_of (pick on fault Nothing) ≡ 0) ↔ (on ≡ true → Good)
+  looked-0 : (number_of (pick on fault (Ok tt)) ≡ 0) ↔ (on ≡ true → Good)
   looked-0 = by on
     where
-      by : (b : Bool) → (number_of (pick b fault Nothing) ≡ 0) ↔ (b ≡ true → Good)
+      by : (b : Bool) → (number_of (pick b fault (Ok tt)) ≡ 0) ↔ (b ≡ true → Good)
       by true = (λ e d. good.0 e, λ g. good.1 (g refl))
       by false = (λ e d. absurd (false≢true d), λ g. refl)
 
-  looked-gives : (n : ℕ) → one_of ns n ≡ true → (number_of (pick on fault Nothing) ≡ n) ↔ ((on ≡ true) × (number_of fault ≡ n))
-  looked-gives n i = inside-exactly (itself on) fault Nothing n (apart ns 0 n i none)
+  looked-gives : (n : ℕ) → one_of ns n ≡ true → (number_of (pick on fault (Ok tt)) ≡ n) ↔ ((on ≡ true) × (number_of fault ≡ n))
+  looked-gives n i = inside-exactly (itself on) fault (Ok tt) n (apart ns 0 n i none)
 
 -- masks and conditions are not asked for in one setting
 pub one-setting : (f : Flags) → uses_conditions f ≡ true → uses_masks f ≡ true → ⊥
@@ -152,36 +152,36 @@ module _ (f : Flags) (t : Tables) where
       )
 
   -- the tables that pass are good where they are asked for
-  pub tables-good : tables_refusal f t ≡ Nothing → GoodTables f t
+  pub tables-good : tables_refusal f t ≡ (Ok tt) → GoodTables f t
   tables-good e = tables-0.0 (ap number_of e)
 
-  pub good-tables : GoodTables f t → tables_refusal f t ≡ Nothing
-  good-tables g = nothing_is _ (eq-eqb (number_of (tables_refusal f t)) 0 (tables-0.1 g))
+  pub good-tables : GoodTables f t → tables_refusal f t ≡ Ok tt
+  good-tables g = nothing_is _ (passes (tables_refusal f t) (tables-0.1 g))
 
 -- The tables for so many blocks: those of no block are not looked at.
 module _ (f : Flags) (t : Tables) (blocks : ℕ) where
   -- what is wrong with them
-  abbrev behind_masks : Refusal
-  behind_masks = pick (eqb blocks 0) Nothing (tables_refusal f t)
+  abbrev behind_masks : Checked
+  behind_masks = pick (eqb blocks 0) (Ok tt) (tables_refusal f t)
 
   behind-among : Among (0 ∷ both_numbers) behind_masks
-  behind-among = of_either (Among (0 ∷ both_numbers)) (eqb blocks 0) Nothing (tables_refusal f t) refl (tables-among f t)
+  behind-among = of_either (Among (0 ∷ both_numbers)) (eqb blocks 0) (Ok tt) (tables_refusal f t) refl (tables-among f t)
 
   behind-0 : (number_of behind_masks ≡ 0) ↔ (1 ≤ blocks → GoodTables f t)
   behind-0 = by (eqb blocks 0) (no_block blocks)
     where
-      by : (b : Bool) → Decides b (blocks ≡ 0) (1 ≤ blocks) → (number_of (pick b Nothing (tables_refusal f t)) ≡ 0) ↔ (1 ≤ blocks → GoodTables f t)
+      by : (b : Bool) → Decides b (blocks ≡ 0) (1 ≤ blocks) → (number_of (pick b (Ok tt) (tables_refusal f t)) ≡ 0) ↔ (1 ≤ blocks → GoodTables f t)
       by true d = (λ e n. absurd (omega (arith, d.on.0 refl, n)), λ g. refl)
       by false d = (λ e n. (tables-0 f t).0 e, λ g. (tables-0 f t).1 (g (d.off.0 refl)))
 
   behind-gives : (n : ℕ) (R : Type 0) → one_of both_numbers n ≡ true → (number_of (tables_refusal f t) ≡ n) ↔ R → (number_of behind_masks ≡ n) ↔ ((1 ≤ blocks) × R)
-  behind-gives n R i = later-exactly (no_block blocks) Nothing (tables_refusal f t) n R (apart both_numbers 0 n i refl)
+  behind-gives n R i = later-exactly (no_block blocks) (Ok tt) (tables_refusal f t) n R (apart both_numbers 0 n i refl)
 
 -- The loan: 6, then the tables.
 module _ (f : Flags) (l : Loan) (blocks : ℕ) where
-  masks-first : InFront (loan_refusal f l blocks) MaskCount (behind_masks f l.tables blocks) (Miscounted f l blocks) (WellCounted f l blocks) (0 ∷ both_numbers)
+  masks-first : InFront (loan_refusal f l blocks) (Err MaskCount) (behind_masks f l.tables blocks) (Miscounted f l blocks) (WellCounted f l blocks) (0 ∷ both_numbers)
   unfolding loan_refusal
-  masks-first = in-front (masks-decide f l blocks) _ MaskCount _ (0 ∷ both_numbers) refl (behind-among f l.tables blocks) refl
+  masks-first = in-front (masks-decide f l blocks) _ (Err MaskCount) _ (0 ∷ both_numbers) refl (behind-among f l.tables blocks) refl
 
   -- a number of the tables, behind the masks: only where a block is compressed
   behind_masks_lem : (n : ℕ) (R : Type 0) → one_of both_numbers n ≡ true → (number_of (tables_refusal f l.tables) ≡ n) ↔ R
@@ -206,7 +206,7 @@ module _ (f : Flags) (l : Loan) (blocks : ℕ) where
 
   -- for a block at least, and masks that are as many, what is given is what is wrong with the tables, number and place
   pub loan-is : 1 ≤ blocks → WellCounted f l blocks → loan_refusal f l blocks ≡ tables_refusal f l.tables
-  loan-is some c = masks-first.is c ∙ later-is (no_block blocks) Nothing (tables_refusal f l.tables) some
+  loan-is some c = masks-first.is c ∙ later-is (no_block blocks) (Ok tt) (tables_refusal f l.tables) some
 
   -- where the conditions are looked at and bad, what is wrong with them is what is given, number and place
   pub loan-gives-conditions : 1 ≤ blocks → uses_conditions f ≡ true → (GoodConditions l.tables.conditions → ⊥)
@@ -214,7 +214,7 @@ module _ (f : Flags) (l : Loan) (blocks : ℕ) where
   loan-gives-conditions some u b =
       loan-is some (λ m. absurd (one-setting f u m))
       ∙ first-of-first (conditions_refusal f l.tables.conditions) (vectors_refusal f l.tables.vectors) (λ z. b ((conditions-0 f l.tables).0 z u))
-      ∙ inside_is (itself (uses_conditions f)) (condition_fault l.tables.conditions) Nothing u
+      ∙ inside_is (itself (uses_conditions f)) (condition_fault l.tables.conditions) (Ok tt) u
 
   -- where the vectors are looked at and the conditions pass, what is wrong with the vectors is what is given, number and place
   pub loan-gives : 1 ≤ blocks → WellCounted f l blocks → ConditionsPass f l.tables.conditions → f.detect ≡ true
@@ -222,7 +222,7 @@ module _ (f : Flags) (l : Loan) (blocks : ℕ) where
   loan-gives some c p d =
       loan-is some c
       ∙ first-of-second (conditions_refusal f l.tables.conditions) (vectors_refusal f l.tables.vectors) ((conditions-0 f l.tables).1 p)
-      ∙ inside_is (itself f.detect) (table_fault l.tables.vectors) Nothing d
+      ∙ inside_is (itself f.detect) (table_fault l.tables.vectors) (Ok tt) d
 
   -- no other number
   pub loan-only : one_of (0 ∷ loan_numbers) (number_of (loan_refusal f l blocks)) ≡ true
@@ -234,12 +234,12 @@ unfolding loan_refusal
 loan-short f t u masks = refl
 
 -- The conditions that the flags ask for are good where the tables pass.
-pub looked-conditions : (f : Flags) (t : Tables) → tables_refusal f t ≡ Nothing → GoodConditions (conditions_for f t.conditions)
+pub looked-conditions : (f : Flags) (t : Tables) → tables_refusal f t ≡ (Ok tt) → GoodConditions (conditions_for f t.conditions)
 looked-conditions f t e = by (uses_conditions f) (tables-good f t e).0
   where
     by : (on : Bool) → (on ≡ true → GoodConditions t.conditions) → GoodConditions (pick on t.conditions [])
     by true g = g refl
     by false g = selecting.none-good
 
-pub accepted-conditions : (f : Flags) (l : Loan) (blocks : ℕ) → loan_refusal f l blocks ≡ Nothing → 1 ≤ blocks → GoodConditions (conditions_for f l.tables.conditions)
+pub accepted-conditions : (f : Flags) (l : Loan) (blocks : ℕ) → loan_refusal f l blocks ≡ (Ok tt) → 1 ≤ blocks → GoodConditions (conditions_for f l.tables.conditions)
 accepted-conditions f l blocks e some = looked-conditions f l.tables ((loan-accepted f l blocks e).good some)

@@ -1,16 +1,16 @@
 -- What is lent to a call, and what is refused of it. A call looks at what its flags ask for, and at the tables only where it compresses a block.
--- 01, "The hasher" and "Numbers a caller can get back"; 02, requests d and f.
-use Rattle.std.specs.Prelude.{◌≡◌, Bool, true, not, ◌&&◌, List, [], ◌∷◌, ℕ, ◌≤◌, eqb, length, drop}
+-- docs/BEHAVIOUR.md has the numbers that a caller can get back.
+use Rattle.std.specs.Prelude.{◌≡◌, Bool, true, not, ◌&&◌, List, [], ◌∷◌, ℕ, ◌≤◌, eqb, length, drop, Err, Ok}
 use Rattle.word.specs.Choice.{pick}
-use Rattle.refusal.specs.Refusal.{number_of, first_of, table_numbers}
-use Rattle.refusal.specs.declared.Refusal.{Refusal}
-use Rattle.refusal.specs.declared.Refusal.TheVariants.{Nothing, MaskCount}
+use Rattle.refusal.specs.Refusal.{number_of, first_of, table_numbers, Checked}
+use Rattle.refusal.specs.declared.Refusal.TheVariants.{MaskCount}
 use Rattle.table.specs.Table.{table_fault}
 use Rattle.table.specs.Good.{GoodTable}
 use Rattle.conditions.specs.Conditions.{condition_fault}
 use Rattle.conditions.specs.Good.{GoodConditions}
 use Rattle.flags.specs.Flags.{uses_masks, uses_conditions}
 use Rattle.flags.specs.declared.Flags.{Flags}
+use Rattle.loan.specs.declared.Lent.{Lent}
 
 -- the tables lent alike to every call of a message: the vectors, and the conditions that select among them
 pub record Tables : Type 0 where
@@ -34,6 +34,10 @@ lend t masks = record { tables = t; masks = masks }
 abbrev pub loan_of : List ℕ → List ℕ → List ℕ → Loan
 loan_of vectors conditions masks = lend (tables_of vectors conditions) masks
 
+-- what a caller lends, as a loan
+abbrev pub loan_in : Lent → Loan
+loan_in l = loan_of l.table.now l.conditions.now l.masks.now
+
 -- what is left of a loan for the blocks after the first n
 abbrev pub later : ℕ → Loan → Loan
 later n l = lend l.tables (drop n l.masks)
@@ -51,22 +55,22 @@ abbrev pub masks_wrong : Flags → ℕ → ℕ → Bool
 masks_wrong f k blocks = uses_masks f && not (eqb k blocks)
 
 -- what is wrong with the conditions, where they are asked for: 12 and 13
-abbrev pub conditions_refusal : Flags → List ℕ → Refusal
-conditions_refusal f conditions = pick (uses_conditions f) (condition_fault conditions) Nothing
+abbrev pub conditions_refusal : Flags → List ℕ → Checked
+conditions_refusal f conditions = pick (uses_conditions f) (condition_fault conditions) (Ok tt)
 
 -- what is wrong with the vectors, which detection asks for: 2 to 5 and 11
-abbrev pub vectors_refusal : Flags → List ℕ → Refusal
-vectors_refusal f vectors = pick f.detect (table_fault vectors) Nothing
+abbrev pub vectors_refusal : Flags → List ℕ → Checked
+vectors_refusal f vectors = pick f.detect (table_fault vectors) (Ok tt)
 
 -- what is wrong with the tables: the conditions, then the vectors
-abbrev pub tables_refusal : Flags → Tables → Refusal
+abbrev pub tables_refusal : Flags → Tables → Checked
 tables_refusal f t = first_of (conditions_refusal f t.conditions) (vectors_refusal f t.vectors)
 
 -- what a call that compresses so many blocks refuses of what it is lent: the masks, then the tables, which are not looked at for no block
-unfoldable pub loan_refusal : Flags → Loan → ℕ → Refusal
+unfoldable pub loan_refusal : Flags → Loan → ℕ → Checked
 loan_refusal f l blocks =
-    pick (masks_wrong f (length l.masks) blocks) MaskCount
-    (pick (eqb blocks 0) Nothing
+    pick (masks_wrong f (length l.masks) blocks) (Err MaskCount)
+    (pick (eqb blocks 0) (Ok tt)
     (tables_refusal f l.tables))
 
 -- the numbers that tables can give: those of the conditions, and those of the vectors

@@ -7,7 +7,8 @@ use native.Mathlib.Omega.{arith}
 use borrow.Author.Tests.{ltb-false, le-ltb}
 use lib.Dec.{lit<}
 use lib.ListN.{length}
-use Rattle.refusal.specs.declared.Refusal.TheVariants.{Nothing, MessageLength}
+use Rattle.std.specs.Prelude.{Err, Ok}
+use Rattle.refusal.specs.declared.Refusal.TheVariants.{MessageLength}
 use Rattle.refusal.proofs.Passed.{passed}
 use Rattle.fips.specs.Fips.{most_bytes}
 use Rattle.fips.proofs.Tails.{tail-some}
@@ -30,14 +31,14 @@ use Rattle.one_shot.proofs.Padded.{last-chain-is}
 
 pub record Whole (f : Flags) (n : ℕ) (l : Loan) : Type 0 where
   pub short : n ≤ most_bytes
-  pub loan : loan_refusal f l (blocks_of n) ≡ Nothing
+  pub loan : loan_refusal f l (blocks_of n) ≡ Ok tt
 
 module _ (f : Flags) (n : ℕ) (l : Loan) where
-  pub refusal-whole : whole_refusal f n l ≡ Nothing → Whole f n l
+  pub refusal-whole : whole_refusal f n l ≡ (Ok tt) → Whole f n l
   unfolding whole_refusal
-  refusal-whole e = let p = passed _ MessageLength _ (lit< tt) e in record { short = ltb-false _ _ p.0; loan = p.1 }
+  refusal-whole e = let p = passed _ (Err MessageLength) _ (lit< tt) e in record { short = ltb-false _ _ p.0; loan = p.1 }
 
-  pub whole_refusal_lem : Whole f n l → whole_refusal f n l ≡ Nothing
+  pub whole_refusal_lem : Whole f n l → whole_refusal f n l ≡ Ok tt
   unfolding whole_refusal
   whole_refusal_lem w = rw (le-ltb _ _ w.short) w.loan
 

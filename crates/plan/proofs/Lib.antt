@@ -1,2 +1,1 @@
-pub mod Errors
 pub mod Places

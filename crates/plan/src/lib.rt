@@ -1,81 +1,71 @@
-// What the program's arguments ask, by what fetching them answered, and what is done by that.
+// What the program's arguments ask, by what fetching them answered.
 #![tactic(auto)]
 
 ghost use Rattle.std.specs.Prelude.{◌≡◌};
-ghost use Rattle.plan.specs.Given.{argument_of, kind_read, placed_at, nothing_asked, asked_with, plan_of};
+ghost use Rattle.plan.specs.Given.{argument_given, kind_read, nothing_planned, plan_with, plan_flags};
 
-use arguments::{ArgumentKind, Setting, kind_of};
-use line::Saying;
+use arguments::{ArgumentKind, kind_of};
+use flags::{Flags, Masks};
+use line::Failure;
+use std::env::FillError;
 
-// What the arguments ask, and which one names the table.
-#[derive(Clone, Copy)]
-pub struct Asked {
-    pub setting: Setting,
-    pub place: usize,
-}
-
-// What is done by what the arguments ask.
-#[derive(Clone, Copy)]
-pub enum Plan {
-    // This is said, and the message is not read.
-    AtOnce(Saying),
-    // It is read, with the table that the argument at this place names.
-    TableAt(usize),
-    NoTable,
+// What the arguments so far ask, each of them known and none repeated.
+#[derive(Clone, Copy, Debug, PartialEq, Eq)]
+pub struct Plan {
+    // The place of the argument that names the table.
+    pub table: Option<usize>,
+    // Whether mitigation is off.
+    pub raw: bool,
 }
 
 // The kind of an argument, by what fetching it answered. One that is too long is none of ours, or names a path that no file
 // can have.
-pub fn kind_read(error: i32, arg: &[u8]) -> ArgumentKind
-    ensures { result ≡ kind_read (argument_of error arg.now) }
+pub fn kind_read(arg: Result<&[u8], FillError>) -> ArgumentKind
+    ensures { result ≡ kind_read (argument_given arg.entry) }
 {
-    if error != 0 {
-        return ArgumentKind::Unknown;
-    }
-    kind_of(arg)
-}
-
-// The place of the argument that names the table, with argument i as well.
-fn placed(place: usize, k: ArgumentKind, i: usize) -> usize
-    ensures { result ≡ placed_at place k i }
-{
-    match k {
-        ArgumentKind::Table => i,
-        ArgumentKind::Raw => place,
-        ArgumentKind::Unknown => place,
+    match arg {
+        Ok(bytes) => kind_of(bytes),
+        Err(_) => ArgumentKind::Unknown,
     }
 }
 
-impl Asked {
+impl Plan {
     // Before the first argument.
-    pub fn new() -> Asked
-        ensures { result ≡ nothing_asked }
+    pub fn new() -> Plan
+        ensures { result ≡ nothing_planned }
     {
-        let setting = Setting::new();
-        Asked { setting, place: 0 }
+        Plan {
+            table: None,
+            raw: false,
+        }
     }
 
-    // One argument more, at place i.
-    pub fn with(self, k: ArgumentKind, i: usize) -> Asked
-        ensures { result ≡ asked_with self k i }
+    // One argument more, at place i. An unknown or repeated one is said before all others.
+    pub fn with(self, kind: ArgumentKind, i: usize) -> Result<Plan, Failure>
+        ensures { result ≡ plan_with self kind i }
     {
-        let before = self.setting;
-        let setting = before.with(k);
-        let place = placed(self.place, k, i);
-        Asked { setting, place }
+        match kind {
+            ArgumentKind::Table if self.table.is_none() => Ok(Plan {
+                table: Some(i),
+                raw: self.raw,
+            }),
+            ArgumentKind::Raw if !self.raw => Ok(Plan {
+                table: self.table,
+                raw: true,
+            }),
+            _ => Err(Failure::Unread),
+        }
     }
-}
 
-// What is done: an unknown or repeated argument is said before all others.
-pub fn plan_of(a: Asked) -> Plan
-    ensures { result ≡ plan_of a }
-{
-    let setting = a.setting;
-    if setting.bad {
-        return Plan::AtOnce(Saying::Unread);
+    // The hasher's flags: detection where a table is named.
+    pub fn flags(self) -> Flags
+        ensures { result ≡ plan_flags self }
+    {
+        Flags {
+            detect: self.table.is_some(),
+            mitigate: !self.raw,
+            masks: Masks::All,
+            reduced: false,
+        }
     }
-    if setting.table {
-        return Plan::TableAt(a.place);
-    }
-    Plan::NoTable
 }

@@ -8,9 +8,8 @@ use borrow.Author.Tests.{eqb-true}
 use lib.Dec.{eqb}
 use lib.IntN.{ℤ, pos, negsuc}
 use lib.ListN.{length}
+use Rattle.std.specs.Prelude.{Ok, is_ok}
 use Rattle.word.specs.Choice.{pick}
-use Rattle.refusal.specs.Refusal.{is_nothing}
-use Rattle.refusal.specs.declared.Refusal.TheVariants.{Nothing}
 use Rattle.loan.specs.Loan.{tables_of, loan_of}
 use Rattle.update.specs.Update.{updated}
 use Rattle.hasher.specs.declared.Hasher.{Hasher}
@@ -53,26 +52,26 @@ end-zero e p f =
 
 module _ (table : List ℕ) where
   -- reads whose bytes are taken
-  steps : (h : Hasher) (r : Read) (rs : List Read) → gave_none r ≡ false → is_nothing (updated h (bytes_read r) (loan_of table [] [])).refusal ≡ true
+  steps : (h : Hasher) (r : Read) (rs : List Read) → gave_none r ≡ false → is_ok (updated h (bytes_read r) (loan_of table [] [])).refusal ≡ true
       → intake_of h table (r ∷ rs) ≡ intake_of (updated h (bytes_read r) (loan_of table [] [])).hasher table rs
   steps h r rs e t = intake-cons h table r rs ∙ rw (with-bytes h table r e, t)
 
   stops_at : (h : Hasher) (r : Read) (rs : List Read) → gave_none r ≡ true → intake_of h table (r ∷ rs) ≡ message_end r.got h
   stops_at h r rs e = intake-cons h table r rs ∙ rw (with-end h table r e)
 
-  refused-at : (h : Hasher) (r : Read) (rs : List Read) → gave_none r ≡ false → is_nothing (updated h (bytes_read r) (loan_of table [] [])).refusal ≡ false
+  refused-at : (h : Hasher) (r : Read) (rs : List Read) → gave_none r ≡ false → is_ok (updated h (bytes_read r) (loan_of table [] [])).refusal ≡ false
       → intake_of h table (r ∷ rs) ≡ intake_by (updated h (bytes_read r) (loan_of table [] []))
   refused-at h r rs e t = intake-cons h table r rs ∙ rw (with-bytes h table r e, t)
 
   -- a first update that is refused ends the updates
-  first-passed : (b : Bool) (h : Hasher) (r : Read) (ps : List Piece) → is_nothing (updated h (bytes_read r) (loan_of table [] [])).refusal ≡ b
-      → (pick b (piecewise (updated h (bytes_read r) (loan_of table [] [])).hasher (tables_of table []) ps) (updated h (bytes_read r) (loan_of table [] []))).refusal ≡ Nothing → b ≡ true
+  first-passed : (b : Bool) (h : Hasher) (r : Read) (ps : List Piece) → is_ok (updated h (bytes_read r) (loan_of table [] [])).refusal ≡ b
+      → (pick b (piecewise (updated h (bytes_read r) (loan_of table [] [])).hasher (tables_of table []) ps) (updated h (bytes_read r) (loan_of table [] []))).refusal ≡ (Ok tt) → b ≡ true
   first-passed true h r ps k e = refl
-  first-passed false h r ps k e = absurd (false≢true (sym k ∙ ap is_nothing e))
+  first-passed false h r ps k e = absurd (false≢true (sym k ∙ ap is_ok e))
 
   -- what is taken in where the reads stop so
   stopped : (before : List Read) (last : Read) (after : List Read) (h : Hasher) → AllGave before → gave_none last ≡ true
-      → (piecewise h (tables_of table []) (calls before)).refusal ≡ Nothing
+      → (piecewise h (tables_of table []) (calls before)).refusal ≡ Ok tt
       → intake_of h table (before ++ (last ∷ after)) ≡ message_end last.got (piecewise h (tables_of table []) (calls before)).hasher
   stopped [] last after h g e p = stops_at h last after e ∙ rw (piecewise-nil h (tables_of table []))
   stopped (r ∷ rs) last after h g e p =
@@ -93,7 +92,7 @@ module _ (table : List ℕ) where
     pub passed : Passed h table end
 
   -- one read more, whose bytes are taken, in front of such
-  in-front : (h : Hasher) (r : Read) (rs : List Read) → gave_none r ≡ false → is_nothing (updated h (bytes_read r) (loan_of table [] [])).refusal ≡ true
+  in-front : (h : Hasher) (r : Read) (rs : List Read) → gave_none r ≡ false → is_ok (updated h (bytes_read r) (loan_of table [] [])).refusal ≡ true
       → Stops (updated h (bytes_read r) (loan_of table [] [])).hasher rs → Stops h (r ∷ rs)
   in-front h r rs e t s =
       record {
@@ -102,14 +101,14 @@ module _ (table : List ℕ) where
       }
 
   -- where there is no more to read and nothing was refused, the reads stop so
-  stop-by : (a b : Bool) (r : Read) (rs : List Read) (h : Hasher) → gave_none r ≡ a → is_nothing (updated h (bytes_read r) (loan_of table [] [])).refusal ≡ b
-      → ((g : Hasher) → (intake_of g table rs).more ≡ false → (intake_of g table rs).refusal ≡ Nothing → Stops g rs)
-      → (intake_of h table (r ∷ rs)).more ≡ false → (intake_of h table (r ∷ rs)).refusal ≡ Nothing → Stops h (r ∷ rs)
+  stop-by : (a b : Bool) (r : Read) (rs : List Read) (h : Hasher) → gave_none r ≡ a → is_ok (updated h (bytes_read r) (loan_of table [] [])).refusal ≡ b
+      → ((g : Hasher) → (intake_of g table rs).more ≡ false → (intake_of g table rs).refusal ≡ (Ok tt) → Stops g rs)
+      → (intake_of h table (r ∷ rs)).more ≡ false → (intake_of h table (r ∷ rs)).refusal ≡ (Ok tt) → Stops h (r ∷ rs)
   stop-by true b r rs h e t next m n =
       record { end = ends-here r rs e; passed = rw (piecewise-nil h (tables_of table [])) }
   stop-by false true r rs h e t next m n = let s = steps h r rs e t in in-front h r rs e t (next _ (rw s at m) (rw s at n))
-  stop-by false false r rs h e t next m n = absurd (false≢true (sym t ∙ ap is_nothing (rw (refused-at h r rs e t) at n)))
+  stop-by false false r rs h e t next m n = absurd (false≢true (sym t ∙ ap is_ok (rw (refused-at h r rs e t) at n)))
 
-  pub stop : (reads : List Read) (h : Hasher) → (intake_of h table reads).more ≡ false → (intake_of h table reads).refusal ≡ Nothing → Stops h reads
+  pub stop : (reads : List Read) (h : Hasher) → (intake_of h table reads).more ≡ false → (intake_of h table reads).refusal ≡ (Ok tt) → Stops h reads
   stop [] h m n = absurd (true≢false (rw (intake-nil h table) at m))
   stop (r ∷ rs) h m n = stop-by _ _ r rs h refl refl (stop rs) m n

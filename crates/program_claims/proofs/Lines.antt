@@ -18,8 +18,8 @@ use Rattle.fips.specs.Fips.{most_bytes, hash_blocks, digest_of, sha1}
 use Rattle.flags.specs.declared.Flags.{Flags}
 use Rattle.arguments.specs.Arguments.{flags_of}
 use Rattle.line.specs.Line.{hex_of, verdict_text, line_of}
-use Rattle.line.specs.declared.Saying.TheVariants.{Verdict}
-use Rattle.arguments.specs.declared.Setting.{Setting}
+use Rattle.line.specs.Line.{Verdict}
+use Rattle.arguments.specs.Arguments.{Setting}
 use Rattle.arguments.proofs.Settings.{setting-none}
 use Rattle.claims.specs.Pieces.{hashed}
 use Rattle.claims.proofs.Every.{none-refused-off, every-message}
@@ -27,7 +27,7 @@ use Rattle.reads.specs.Reads.{Read, below0}
 use Rattle.reads.specs.Files.{File}
 use Rattle.plan.specs.Given.{Argument, setting_read}
 use Rattle.program.specs.Reply.{finish_reply, program_reply}
-use Rattle.program.specs.declared.Reply.{Reply}
+use Rattle.line.specs.Line.{Reply}
 use Rattle.program_claims.specs.Ends.{calls, message_of, Ends}
 use Rattle.program_claims.specs.Grounds.{unasked}
 use Rattle.program_claims.proofs.Verdicts.{end-says, reply-with}

@@ -5,30 +5,30 @@ use mathlib.Core.Bool.{Bool, true, false, false≢true}
 use mathlib.Core.List.{List, []}
 use mathlib.Core.Option.{Option, none, some, some-injective}
 use Prim.Native.Nat.{ℕ}
-use Rattle.word.specs.Choice.{pick}
-use Rattle.refusal.specs.Refusal.{is_nothing}
+use Rattle.std.specs.Prelude.{is_ok, Ok, Err, Ok as Done, Err as Refused, Some, None}
+use Rattle.line.specs.declared.Failure.TheVariants.{Unread as NotRead}
 use Rattle.refusal.specs.declared.Refusal.{Refusal}
+use Rattle.word.specs.Choice.{pick}
+use Rattle.refusal.specs.Refusal.{Checked}
 use Rattle.refusal.proofs.Chains.{nothing_is}
 use Rattle.verdict.specs.declared.Verdict.{Verdict}
 use Rattle.flags.specs.declared.Flags.{Flags}
 use Rattle.hasher.specs.Hasher.{fresh_of}
 use Rattle.table_file.specs.File.{table_of, file_fault}
 use Rattle.loan.specs.Loan.{tables_of, loan_of}
-use Rattle.finish.specs.Finish.{finished}
-use Rattle.finish.specs.declared.Outcome.{Outcome}
-use Rattle.finish.specs.declared.Outcome.TheVariants.{Done, Refused}
+use Rattle.finish.specs.Finish.{finished, Outcome}
 use Rattle.claims.specs.Pieces.{hashed}
 use Rattle.arguments.specs.Arguments.{flags_of}
-use Rattle.line.specs.declared.Saying.{Saying}
-use Rattle.line.specs.declared.Saying.TheVariants.{Verdict as SayVerdict, Refused as SayRefused, Unread}
+use Rattle.line.specs.Line.{Saying}
+use Rattle.line.specs.Line.{Verdict as SayVerdict, Refused as SayRefused, Unread}
 use Rattle.reads.specs.Reads.{Read, below0, Possible}
 use Rattle.program.specs.Intakes.{intake_of}
 use Rattle.reads.specs.Files.{File, Contents, holds, unreadable, unfinished}
 use Rattle.plan.specs.Given.{Argument, kinds_read, setting_read, table_place}
-use Rattle.program.specs.Reply.{without_digest, outcome_reply, finish_reply, intake_reply, reply_to_message, reply_with_contents, plan_reply, program_reply, ProgramReplies}
-use Rattle.program.specs.declared.Intake.{Intake}
-use Rattle.plan.specs.declared.Plan.TheVariants.{AtOnce, TableAt, NoTable}
-use Rattle.program.specs.declared.Reply.{Reply}
+use Rattle.program.specs.Reply.{outcome_reply, finish_reply, checked_reply, checked_answer, intake_reply, reply_to_message, reply_with_contents, plan_reply, program_reply, ProgramReplies}
+use Rattle.line.specs.Line.{without_digest}
+use Rattle.program.specs.Intakes.{Intake}
+use Rattle.line.specs.Line.{Reply}
 use Rattle.program_claims.specs.Ends.{calls, Ends, Passed}
 use Rattle.program_claims.specs.Grounds.{says_verdict, ReadToEnd, TableOf, unasked, checked, file_given, VerdictGrounds}
 use Rattle.program_claims.proofs.Ends.{end-zero, stop, intake-end-at}
@@ -55,13 +55,13 @@ finish-says (Done w) d {v} e = (ap Done (ap (λ (a : Reply). which v a.saying) e
 finish-says (Refused r) d e = absurd (false≢true (ap (λ (a : Reply). is_said a.saying) e))
 
 -- where a reply is a verdict, there is no more to read, nothing was refused and no read failed
-said : (more nothing failed : Bool) (r : Refusal) (fin : Reply) {v : Verdict} {digest : List ℕ}
-    → pick more none (some (pick nothing (pick failed (without_digest Unread) fin) (without_digest (SayRefused r)))) ≡ some (says_verdict v digest)
-    → (more ≡ false) × (nothing ≡ true) × (failed ≡ false) × (fin ≡ says_verdict v digest)
-said true nothing failed r fin e = absurd (false≢true (ap is_verdict e))
-said false false failed r fin e = absurd (false≢true (ap is_verdict e))
-said false true true r fin e = absurd (false≢true (ap is_verdict e))
-said false true false r fin e = (refl, refl, refl, some-injective _ _ e)
+said : (c : Checked) (more failed : Bool) (fin : Reply) {v : Verdict} {digest : List ℕ}
+    → pick more none (some (checked_reply c (pick failed (without_digest Unread) fin))) ≡ some (says_verdict v digest)
+    → (more ≡ false) × (c ≡ Ok tt) × (failed ≡ false) × (fin ≡ says_verdict v digest)
+said c true failed fin e = absurd (false≢true (ap is_verdict e))
+said (Err r) false failed fin e = absurd (false≢true (ap is_verdict e))
+said (Ok u) false true fin e = absurd (false≢true (ap is_verdict e))
+said (Ok u) false false fin e = (refl, refl, refl, some-injective _ _ e)
 
 module _ (f : Flags) (table : List ℕ) (reads : List Read) where
   -- A verdict is said only for a message that was read to its end.
@@ -69,8 +69,8 @@ module _ (f : Flags) (table : List ℕ) (reads : List Read) where
   unfolding reply_to_message intake_reply
   verdict-read p e =
       let h = intake_of (fresh_of f) table reads in
-      let s = said h.more (is_nothing h.refusal) h.failed h.refusal (finish_reply (finished h.hasher (loan_of table [] []))) e in
-      let x = stop table reads (fresh_of f) s.0 (nothing_is h.refusal s.1) in
+      let s = said h.refusal h.more h.failed (finish_reply (finished h.hasher (loan_of table [] []))) e in
+      let x = stop table reads (fresh_of f) s.0 s.1 in
       let k = intake-end-at table (fresh_of f) reads x.end x.passed in
       let done = finish-says _ _ (rw k at s.3) in
       record {
@@ -93,11 +93,11 @@ module _ (f : Flags) (table : List ℕ) (reads : List Read) where
   failed-says e p u = rw (intake-end-at table (fresh_of f) reads e p, u)
 
 -- a verdict with a table file is said only where it was read and nothing is wrong with it
-file-by : (b : Bool) (f : Flags) (file : List ℕ) (reads : List Read) {a : Reply} → is_nothing (file_fault file) ≡ b → is_verdict (some a) ≡ true
-    → pick b (reply_to_message f (table_of file) reads) (some (without_digest (SayRefused (file_fault file)))) ≡ some a
-    → (is_nothing (file_fault file) ≡ true) × (reply_to_message f (table_of file) reads ≡ some a)
-file-by true f file reads t v e = (t, e)
-file-by false f file reads t v e = absurd (false≢true (ap is_verdict e ∙ v))
+file-by : (c : Checked) (f : Flags) (file : List ℕ) (reads : List Read) {a : Reply} → file_fault file ≡ c → is_verdict (some a) ≡ true
+    → checked_answer c (reply_to_message f (table_of file) reads) ≡ some a
+    → (is_ok (file_fault file) ≡ true) × (reply_to_message f (table_of file) reads ≡ some a)
+file-by (Ok u) f file reads t v e = (ap is_ok t, e)
+file-by (Err r) f file reads t v e = absurd (false≢true (ap is_verdict e ∙ v))
 
 module _ (args : List Argument) (files : ℕ → File) (reads : List Read) where
   -- With no bad argument the reply is that to the message, with the table that the arguments ask.
@@ -105,11 +105,11 @@ module _ (args : List Argument) (files : ℕ → File) (reads : List Read) where
       → program_reply args files reads ≡ reply_to_message (flags_of (setting_read args)) table reads
   unfolding program_reply reply_with_contents
   reply-with b (unasked t) = rw (b, t)
-  reply-with b (checked t g k) = rw (b, t, g, k)
+  reply-with b (checked t g k) = let n = nothing_is _ k in rw (b, t, g, n)
 
   -- The table is checked first: if something is wrong with the file that they name, the reply is that, to all reads of the message, to none too.
   pub table-first : {file : List ℕ} → (setting_read args).bad ≡ false → (setting_read args).table ≡ true → file_given args files ≡ holds file
-      → is_nothing (file_fault file) ≡ false → program_reply args files reads ≡ some (without_digest (SayRefused (file_fault file)))
+      → {r : Refusal} → file_fault file ≡ Err r → program_reply args files reads ≡ some (without_digest (SayRefused r))
   unfolding program_reply reply_with_contents
   table-first b t g k = rw (b, t, g, k)
 
@@ -129,11 +129,11 @@ module _ (args : List Argument) (files : ℕ → File) (reads : List Read) (p : 
   with-file unfinished g b t e = absurd (false≢true (ap is_verdict e))
 
   by-setting : (bad table : Bool) → (setting_read args).bad ≡ bad → (setting_read args).table ≡ table
-      → plan_reply (pick bad (AtOnce Unread) (pick table (TableAt (table_place (kinds_read args))) NoTable)) (flags_of (setting_read args)) files reads ≡ some (says_verdict v digest)
+      → plan_reply (pick bad (Err NotRead) (Ok (record { table = pick table (Some (table_place (kinds_read args))) None; raw = (setting_read args).raw }))) files reads ≡ some (says_verdict v digest)
       → VerdictGrounds args files reads v digest
   by-setting true table b t e = absurd (false≢true (ap is_verdict e))
-  by-setting false true b t e = with-file (file_given args files) refl b t e
-  by-setting false false b t e = record { good = b; table = []; whence = unasked t; read = verdict-read (flags_of (setting_read args)) [] reads p e }
+  by-setting false true b t e = with-file (file_given args files) refl b t (rw t e)
+  by-setting false false b t e = record { good = b; table = []; whence = unasked t; read = verdict-read (flags_of (setting_read args)) [] reads p (rw t e) }
 
   -- A verdict is the reply only where no argument is bad and the message was read to its end, with the table that the arguments ask.
   pub reply-verdict : program_reply args files reads ≡ some (says_verdict v digest) → VerdictGrounds args files reads v digest

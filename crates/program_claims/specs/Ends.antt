@@ -1,7 +1,6 @@
 -- Where the reads of a message end.
-use Rattle.std.specs.Prelude.{◌≡◌, true, false, List, [], ◌∷◌, ◌++◌, map, ℕ}
+use Rattle.std.specs.Prelude.{◌≡◌, true, false, List, [], ◌∷◌, ◌++◌, map, ℕ, Ok}
 use Rattle.loan.specs.Loan.{tables_of}
-use Rattle.refusal.specs.declared.Refusal.TheVariants.{Nothing}
 use Rattle.hasher.specs.declared.Hasher.{Hasher}
 use Rattle.claims.specs.Pieces.{Piece, bytes_of, piecewise}
 use Rattle.reads.specs.Reads.{Read, bytes_read, gave_none}
@@ -30,4 +29,4 @@ pub record Ends (reads : List Read) : Type 0 where
 
 -- the updates took all those bytes
 abbrev pub Passed : Hasher → List ℕ → {reads : List Read} → Ends reads → Type 0
-Passed h table e = (piecewise h (tables_of table []) (calls e.before)).refusal ≡ Nothing
+Passed h table e = (piecewise h (tables_of table []) (calls e.before)).refusal ≡ Ok tt

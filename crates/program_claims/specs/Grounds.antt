@@ -1,20 +1,18 @@
 -- What a verdict of the program is said for: its arguments, the table file and the reads of the message.
-use Rattle.std.specs.Prelude.{◌≡◌, true, false, List, [], ◌++◌, ℕ, ◌+◌, pos}
+use Rattle.std.specs.Prelude.{◌≡◌, true, false, List, [], ◌++◌, ℕ, ◌+◌, pos, is_ok, Ok as Done}
 use Rattle.loan.specs.Loan.{tables_of}
-use Rattle.refusal.specs.Refusal.{is_nothing}
 use Rattle.verdict.specs.declared.Verdict.{Verdict}
 use Rattle.flags.specs.declared.Flags.{Flags}
 use Rattle.hasher.specs.Hasher.{fresh_of}
 use Rattle.table_file.specs.File.{most_file_bytes, table_of, file_fault}
-use Rattle.finish.specs.declared.Outcome.TheVariants.{Done}
 use Rattle.claims.specs.Pieces.{hashed}
 use Rattle.arguments.specs.Arguments.{flags_of}
-use Rattle.arguments.specs.declared.Setting.{Setting}
-use Rattle.line.specs.declared.Saying.TheVariants.{Verdict as SayVerdict}
+use Rattle.arguments.specs.Arguments.{Setting}
+use Rattle.line.specs.Line.{Verdict as SayVerdict}
 use Rattle.reads.specs.Reads.{Read, below0}
 use Rattle.reads.specs.Files.{File, Contents, holds, contents_of}
 use Rattle.plan.specs.Given.{Argument, kinds_read, setting_read, table_place}
-use Rattle.program.specs.declared.Reply.{Reply}
+use Rattle.line.specs.Line.{Reply}
 use Rattle.program_claims.specs.Ends.{calls, message_of, Ends, Passed}
 
 -- a verdict and its digest
@@ -32,7 +30,7 @@ pub record ReadToEnd (f : Flags) (table : List ℕ) (reads : List Read) (v : Ver
 -- the table that the arguments ask: none, or that of a file that was read and has nothing wrong
 pub data TableOf (s : Setting) (c : Contents) : List ℕ → Type 0 where
   unasked : s.table ≡ false → TableOf s c []
-  checked : {file : List ℕ} → s.table ≡ true → c ≡ holds file → is_nothing (file_fault file) ≡ true → TableOf s c (table_of file)
+  checked : {file : List ℕ} → s.table ≡ true → c ≡ holds file → is_ok (file_fault file) ≡ true → TableOf s c (table_of file)
 
 -- what the file that they name holds
 abbrev pub file_given : List Argument → (ℕ → File) → Contents

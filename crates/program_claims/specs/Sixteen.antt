@@ -10,7 +10,7 @@ use Rattle.line.specs.Line.{saying_number}
 use Rattle.reads.specs.Reads.{Read, below0}
 use Rattle.reads.specs.Files.{File}
 use Rattle.plan.specs.Given.{Argument, is_zero, kinds_read, setting_read, table_place}
-use Rattle.program.specs.declared.Reply.{Reply}
+use Rattle.line.specs.Line.{Reply}
 use Rattle.program_claims.specs.Ends.{message_of, Ends, Passed}
 use Rattle.program_claims.specs.Grounds.{TableOf, file_given}
 

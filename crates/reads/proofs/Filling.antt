@@ -2,14 +2,15 @@
 use mathlib.Core.Path.{◌≡◌, refl, sym, ap, ◌∙◌}
 use mathlib.Core.Bool.{true, false}
 use mathlib.Core.List.{List, [], ◌∷◌, ◌++◌, append_assoc, append-nil}
-use Prim.Native.Nat.{ℕ, ◌+◌, ◌≤◌, ◌<◌, zero-le}
-use borrow.Author.Tests.{lt-ltb, le-ltb}
-use lib.ListN.{length, take, drop}
-use lib.Seq.{length-take-le, take-take, take-add}
-use lib.IntN.{ℤ, pos, negsuc}
-use Rattle.reads.specs.Reads.{Read, size_read, bytes_read, gave_none}
-use Rattle.reads.specs.Files.{holds, ended_by, filling, file_end, size_of, in_buffer, Fills}
-use Rattle.reads.specs.declared.Loaded.TheVariants.{Bytes}
+use Prim.Native.Nat.{ℕ, ◌+◌, ◌-◌, ◌≤◌, ◌<◌, zero-le}
+use native.Mathlib.Omega.{arith}
+use borrow.Author.Tests.{lt-ltb, le-ltb, eq-eqb, ne_eqb}
+use lib.ListN.{length, take, drop, length-drop}
+use lib.Seq.{length-take-le, take-add}
+use lib.IntN.{pos, negsuc}
+use Rattle.reads.specs.Reads.{Read, read_of, size_read, bytes_read, gave_none}
+use Rattle.reads.specs.Files.{holds, ended_by, filling, Fills}
+use Rattle.std.specs.Prelude.{Ok, Err}
 
 -- what the reads so far gave
 pub record FilledSoFar (most : ℕ) (bytes : List ℕ) : Type 0 where
@@ -40,32 +41,33 @@ module _ {most : ℕ} {bytes : List ℕ} (s : FilledSoFar most bytes) where
           then = λ rs. ap (filling most []) (append_assoc s.reads (r ∷ []) rs) ∙ s.then (r ∷ rs) ∙ rw (lt-ltb (length bytes) most room, e);
         }
 
-end-within : (got : ℤ) (done n : ℕ) → done ≤ n → size_of (file_end got done) ≤ n
-end-within (pos k) done n h = h
-end-within (negsuc k) done n h = zero-le
-
-end-holds : (got : ℤ) (done : ℕ) (buffer : List ℕ) → in_buffer (file_end got done) buffer ≡ ended_by got (take done buffer)
-end-holds (pos k) done buffer = refl
-end-holds (negsuc k) done buffer = refl
-
 -- the bytes so far are the first of the buffer
 module _ (most done : ℕ) (buffer : List ℕ) (s : FilledSoFar most (take done buffer)) (long : length buffer ≡ most) (within : done ≤ length buffer) where
   so-many : length (take done buffer) ≡ done
   so-many = length-take-le done buffer within
 
-  pub fills-all : most ≤ done → Fills buffer (Bytes done)
-  fills-all l = record { fits = within; reads = s.reads; filled = sym (rw long (full s (rw so-many l))) }
+  module _ {E : Type 0} where
+    pub fills-all : most ≤ done → Fills {E = E} buffer (Ok done)
+    fills-all l = record { fits = within; reads = s.reads; filled = sym (rw long (full s (rw so-many l))) }
 
-  module _ (room : done < most) (r : Read) where
-    pub fills-end : gave_none r ≡ true → Fills buffer (file_end r.got done)
-    fills-end e =
-        record {
-          fits = end-within r.got done _ within;
-          reads = s.reads ++ (r ∷ []);
-          filled = end-holds r.got done buffer ∙ sym (rw long (ended s (rw so-many room) r e));
-        }
+    -- a read that gives no byte, and one that fails
+    pub fills-end : done < most → (after : List ℕ) → Fills {E = E} buffer (Ok done)
+    fills-end room after =
+        let r = read_of (pos 0) after in
+        let none : gave_none r ≡ true = eq-eqb (size_read r) 0 (omega arith) in
+        record { fits = within; reads = s.reads ++ (r ∷ []); filled = sym (rw long (ended s (rw so-many room) r none)) }
 
-    pub fills-more : (n k : ℕ) → n ≡ size_read r → r.buffer ≡ take k (drop done buffer) → n ≤ k → gave_none r ≡ false → FilledSoFar most (take (done + n) buffer)
-    fills-more n k size from l e =
-        let b : bytes_read r ≡ take n (take k (drop done buffer)) = rw (size, from) in
-        rw (take-add done n buffer, ← take-take n k (drop done buffer) l, ← b) (gave-more s (rw so-many room) r e)
+    pub fills-failed : done < most → (after : List ℕ) (e : E) → Fills {E = E} buffer (Err e)
+    fills-failed room after e =
+        let r = read_of (negsuc 0) after in
+        record { fits = zero-le; reads = s.reads ++ (r ∷ []); filled = sym (rw long (ended s (rw so-many room) r refl)) }
+
+  -- one that gives n bytes, which lie where they belong
+  pub fills-more : done < most → (n : ℕ) → 0 < n → n ≤ length buffer - done → FilledSoFar most (take (done + n) buffer)
+  fills-more room n some l =
+      let after = drop done buffer in
+      let r = read_of (pos n) after in
+      let size : size_read r ≡ n = omega (arith, length-drop done buffer) in
+      let none : gave_none r ≡ false = ne_eqb (size_read r) 0 (λ e. omega arith) in
+      let b : bytes_read r ≡ take n after = rw size in
+      rw (take-add done n buffer, ← b) (gave-more s (rw so-many room) r none)

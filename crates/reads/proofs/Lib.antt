@@ -1,3 +1,2 @@
-pub mod Signs
 pub mod Filling
 pub mod Answered

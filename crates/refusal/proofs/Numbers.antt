@@ -7,11 +7,11 @@ use mathlib.Core.List.{List, [], ◌∷◌}
 use Prim.Native.Nat.{ℕ}
 use borrow.Author.Tests.{eqb-true, eq-eqb, not-true}
 use lib.Dec.{eqb}
+use Rattle.std.specs.Prelude.{is_ok}
 use Rattle.word.specs.Choice.{pick}
 use Rattle.word.proofs.Tests.{both_true, one-true, of_either}
-use Rattle.refusal.specs.Refusal.{number_of, is_nothing, first_of, one_of}
-use Rattle.refusal.specs.declared.Refusal.{Refusal}
-use Rattle.refusal.proofs.Chains.{Decides, equal, first-exactly, later-exactly, inside-exactly, later-is, inside_is}
+use Rattle.refusal.specs.Refusal.{number_of, first_of, one_of, Checked}
+use Rattle.refusal.proofs.Chains.{Decides, numbered, first-exactly, later-exactly, inside-exactly, later-is, inside_is}
 
 -- each number of the second list is in the first
 abbrev pub all_of : List ℕ → List ℕ → Bool
@@ -42,22 +42,22 @@ pub apart : (l : List ℕ) (m n : ℕ) → one_of l n ≡ true → one_of l m �
 apart l m n p q e = true≢false (sym p ∙ ap (one_of l) (sym e) ∙ q)
 
 -- a refusal whose number is one of those listed
-abbrev pub Among : List ℕ → Refusal → Type 0
+abbrev pub Among : List ℕ → Checked → Type 0
 Among l r = one_of l (number_of r) ≡ true
 
 -- what is said of a refusal is said of the one that a call gives
-pub over : {r s : Refusal} (n : ℕ) (P : Type 0) → r ≡ s → (number_of s ≡ n) ↔ P → (number_of r ≡ n) ↔ P
+pub over : {r s : Checked} (n : ℕ) (P : Type 0) → r ≡ s → (number_of s ≡ n) ↔ P → (number_of r ≡ n) ↔ P
 over n P e d = (λ p. d.0 (ap number_of (sym e) ∙ p), λ x. ap number_of e ∙ d.1 x)
 
 -- the refusal r is `own` where P holds and, where Q does, s, whose number is one of ns
-pub record InFront (r own s : Refusal) (P Q : Type 0) (ns : List ℕ) : Type 1 where
+pub record InFront (r own s : Checked) (P Q : Type 0) (ns : List ℕ) : Type 1 where
   pub at_own : (number_of r ≡ number_of own) ↔ P
   pub behind : (n : ℕ) (R : Type 0) → one_of ns n ≡ true → (number_of s ≡ n) ↔ R → (number_of r ≡ n) ↔ (Q × R)
   pub is : Q → r ≡ s
   pub among : Among (number_of own ∷ ns) r
 
 -- so it is of a test with a refusal of its own in front of s, whose number that is not
-pub in-front : {b : Bool} {P Q : Type 0} → Decides b P Q → (r own s : Refusal) (ns : List ℕ) → r ≡ pick b own s → Among ns s → one_of ns (number_of own) ≡ false
+pub in-front : {b : Bool} {P Q : Type 0} → Decides b P Q → (r own s : Checked) (ns : List ℕ) → r ≡ pick b own s → Among ns s → one_of ns (number_of own) ≡ false
     → InFront r own s P Q ns
 in-front {b = b} {P = P} {Q = Q} says r own s ns e a o =
     record {
@@ -71,13 +71,13 @@ in-front {b = b} {P = P} {Q = Q} says r own s ns e a o =
     }
 
 -- The first of two refusals.
-module _ (r s : Refusal) where
-  none : Decides (is_nothing r) (number_of r ≡ 0) (number_of r ≡ 0 → ⊥)
-  none = equal (number_of r) 0
+module _ (r s : Checked) where
+  none : Decides (is_ok r) (number_of r ≡ 0) (number_of r ≡ 0 → ⊥)
+  none = numbered r
 
   -- there is none exactly when there is neither
   pub first-of-0 : (number_of (first_of r s) ≡ 0) ↔ ((number_of r ≡ 0) × (number_of s ≡ 0))
-  first-of-0 = by (is_nothing r) none
+  first-of-0 = by (is_ok r) none
     where
       by : (b : Bool) → Decides b (number_of r ≡ 0) (number_of r ≡ 0 → ⊥) → (number_of (pick b s r) ≡ 0) ↔ ((number_of r ≡ 0) × (number_of s ≡ 0))
       by true d = (λ e. (d.on.0 refl, e), λ e. e.1)
@@ -95,7 +95,7 @@ module _ (r s : Refusal) where
 
   -- its number is one of those that either has
   pub first-of-among : (l : List ℕ) → Among l r → Among l s → Among l (first_of r s)
-  first-of-among l a b = of_either (Among l) (is_nothing r) s r b a
+  first-of-among l a b = of_either (Among l) (is_ok r) s r b a
 
   -- where the first is none it is the second, number and place
   pub first-of-second : number_of r ≡ 0 → first_of r s ≡ s

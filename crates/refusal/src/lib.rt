@@ -1,12 +1,12 @@
-// What a call can refuse, one case for each number of the paper's table and of the requests that amend it.
+// What a call can refuse, one case for each number of the table in docs/BEHAVIOUR.md.
 #![tactic(auto)]
 
 ghost use Rattle.std.specs.Prelude.{◌≡◌};
-ghost use Rattle.refusal.specs.Refusal.{number_of, place_of, is_nothing};
+ghost use Rattle.refusal.specs.Refusal.{number, place, number_of, place_of};
 
-#[derive(Clone, Copy)]
+// What a check answers is a `Result<(), Refusal>`: nothing is wrong, or this is.
+#[derive(Clone, Copy, Debug, PartialEq, Eq)]
 pub enum Refusal {
-    Nothing,
     // 1: the hasher is not well formed.
     HasherForm,
     // 2: the table is empty, too long or no whole number of records.
@@ -34,53 +34,59 @@ pub enum Refusal {
     Condition(usize),
 }
 
-// The paper's number, 0 where nothing is refused.
-pub fn number(r: Refusal) -> u32
-    ensures { result ≡ number_of r }
-{
-    match r {
-        Refusal::Nothing => 0,
-        Refusal::HasherForm => 1,
-        Refusal::TableLength => 2,
-        Refusal::MaskNumber(_) => 3,
-        Refusal::TestStep(_) => 4,
-        Refusal::DmRule(_) => 5,
-        Refusal::MaskCount => 6,
-        Refusal::MessageLength => 7,
-        Refusal::Size => 8,
-        Refusal::SheetLength => 9,
-        Refusal::NoLane => 10,
-        Refusal::MaskRepeated(_) => 11,
-        Refusal::ConditionLength => 12,
-        Refusal::Condition(_) => 13,
+impl Refusal {
+    // Its number in the table.
+    pub fn number(self) -> u32
+        ensures { result ≡ number self }
+    {
+        match self {
+            Refusal::HasherForm => 1,
+            Refusal::TableLength => 2,
+            Refusal::MaskNumber(_) => 3,
+            Refusal::TestStep(_) => 4,
+            Refusal::DmRule(_) => 5,
+            Refusal::MaskCount => 6,
+            Refusal::MessageLength => 7,
+            Refusal::Size => 8,
+            Refusal::SheetLength => 9,
+            Refusal::NoLane => 10,
+            Refusal::MaskRepeated(_) => 11,
+            Refusal::ConditionLength => 12,
+            Refusal::Condition(_) => 13,
+        }
+    }
+
+    // The place of the record that decides, 0 for the numbers that name none.
+    pub fn place(self) -> usize
+        ensures { result ≡ place self }
+    {
+        match self {
+            Refusal::MaskNumber(i)
+            | Refusal::TestStep(i)
+            | Refusal::DmRule(i)
+            | Refusal::MaskRepeated(i)
+            | Refusal::Condition(i) => i,
+            _ => 0,
+        }
     }
 }
 
-// The place of the record that decides, 0 for the numbers that name none.
-pub fn place(r: Refusal) -> usize
-    ensures { result ≡ place_of r }
+// The number that a check's answer has for callers in C, 0 where nothing is refused.
+pub fn number_of(checked: Result<(), Refusal>) -> u32
+    ensures { result ≡ number_of checked }
 {
-    match r {
-        Refusal::MaskNumber(i) => i,
-        Refusal::TestStep(i) => i,
-        Refusal::DmRule(i) => i,
-        Refusal::MaskRepeated(i) => i,
-        Refusal::Condition(i) => i,
-        Refusal::Nothing => 0,
-        Refusal::HasherForm => 0,
-        Refusal::TableLength => 0,
-        Refusal::MaskCount => 0,
-        Refusal::MessageLength => 0,
-        Refusal::Size => 0,
-        Refusal::SheetLength => 0,
-        Refusal::NoLane => 0,
-        Refusal::ConditionLength => 0,
+    match checked {
+        Ok(()) => 0,
+        Err(refusal) => refusal.number(),
     }
 }
 
-// Whether nothing is refused.
-pub fn is_nothing(r: Refusal) -> bool
-    ensures { result ≡ is_nothing r }
+// The place that it names for them, 0 where it names none.
+pub fn place_of(checked: Result<(), Refusal>) -> usize
+    ensures { result ≡ place_of checked }
 {
-    number(r) == 0
+    match checked {
+        Ok(()) => 0,
+        Err(refusal) => refusal.place(),
+    }
 }

@@ -1,8 +1,8 @@
-// The hashers that calls are given, in the middle of a message.
+// What calls are given: hashers in the middle of a message, and messages.
 ghost use Rattle.std.specs.Prelude.{◌≡◌, ◌%◌};
-ghost use Rattle.refusal_run.specs.Given.{pending_of, given_hasher};
+ghost use Rattle.refusal_run.specs.Given.{pending_of, given_hasher, given_message};
 
-use cases::{flags_of_bits, number_at, word_field};
+use cases::{field, flags_of_bits, front, number_at, word_field};
 use hasher::Hasher;
 use stream::FirstMark;
 
@@ -11,15 +11,14 @@ fn pending(last: u32) -> [u8; 64]
     ensures { result ≡ pending_of (last % 256) }
 {
     let mut p = [0u8; 64];
-    p[0] = 0x61;
-    p[1] = 0x62;
-    p[2] = 0x63;
+    p[..3].copy_from_slice(b"abc");
     p[63] = (last % 256) as u8;
     p
 }
 
 // A case gives the fields that can be ill formed: fill, blocks, last pending byte, flags, mark and where it was first made.
-pub(crate) fn given_hasher(line: &[u8]) -> Hasher
+#[tactic(auto, unfolding(crate::specs::Given::given_hasher))]
+pub(crate) fn given_hasher(line: &str) -> Hasher
     ensures { result ≡ given_hasher line.now }
 {
     Hasher {
@@ -34,4 +33,11 @@ pub(crate) fn given_hasher(line: &[u8]) -> Hasher
             place: number_at(line, 13),
         },
     }
+}
+
+// The first bytes of field 14.
+pub(crate) fn given_message(line: &str) -> &[u8]
+    ensures { result.now ≡ given_message line.now }
+{
+    front(field(line, 14).as_bytes(), number_at(line, 15))
 }

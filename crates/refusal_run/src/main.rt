@@ -4,89 +4,26 @@
 
 mod call;
 mod given;
-mod same;
 
-use call::{at_once, by_finish, by_finish_reset, by_reset, by_update, in_place};
-use cases::{
-    conditions_of, from_field, front, line_at, next_line, number_at, page, read, records_of,
-    say_title,
-};
-use given::given_hasher;
-use printing::{say, say_hasher};
+use call::call;
+use cases::{conditions_of, front, number_at, play_cases, records_of};
+use loan::Lent;
 use std::io;
-use std::io::{BufWriter, Write};
-
-// The hasher that calls are given.
-fn say_given<W: Write>(out: &mut W, line: &[u8]) -> io::Result<()> {
-    say(out, from_field(line, 21))?;
-    say(out, b": hasher ")?;
-    say_hasher(out, given_hasher(line))?;
-    say(out, b"\n")
-}
-
-// A call by its letter.
-fn by_letter<W: Write>(
-    out: &mut W,
-    letter: u8,
-    line: &[u8],
-    table: &[u32],
-    conditions: &[u32],
-    masks: &[u32],
-) -> io::Result<()> {
-    match letter {
-        b'u' => by_update(out, line, table, conditions, masks),
-        b'p' => in_place(out, line, table, conditions, masks),
-        b'r' => by_reset(out, line),
-        b'f' => by_finish(out, line, table, conditions, masks),
-        b'c' => by_finish_reset(out, line, table, conditions, masks),
-        b'o' => at_once(out, line, table, masks),
-        _ => say_given(out, line),
-    }
-}
+use std::io::Write;
 
 // The masks select mask number 31 alone; the conditions, if there are any, drop mask number 0.
-fn call_on<W: Write>(out: &mut W, letter: u8, line: &[u8]) -> io::Result<()> {
-    let t = records_of(line);
-    let c = conditions_of(line, 17);
+fn one<W: Write>(out: &mut W, line: &str) -> io::Result<()> {
+    let table = records_of(line);
+    let conditions = conditions_of(line, 17);
     let masks = [0x80000000u32; 3];
-    let table = front(&t, number_at(line, 1));
-    let conditions = front(&c, number_at(line, 16));
-    by_letter(
-        out,
-        letter,
-        line,
-        table,
-        conditions,
-        front(&masks, number_at(line, 6)),
-    )
-}
-
-// A line of the cases: `#` begins a comment, `=` a title.
-fn one<W: Write>(out: &mut W, line: &[u8]) -> io::Result<()> {
-    if line.len() == 0 {
-        return Ok(());
-    }
-    let letter = line[0];
-    match letter {
-        b'#' => Ok(()),
-        b'=' => say_title(out, line),
-        _ => call_on(out, letter, line),
-    }
-}
-
-fn each<W: Write>(out: &mut W, text: &[u8]) -> io::Result<()> {
-    let mut at = 0;
-    while at < text.len() {
-        one(out, line_at(text, at))?;
-        at = next_line(text, at);
-    }
-    Ok(())
+    let lent = Lent {
+        table: front(&table, number_at(line, 1)),
+        conditions: front(&conditions, number_at(line, 16)),
+        masks: front(&masks, number_at(line, 6)),
+    };
+    call(out, line, lent)
 }
 
 fn main(rt: HostRuntime) -> io::Result<()> {
-    let mut out = BufWriter::new(rt.alloc(), io::writer(&rt))?;
-    let mut text = page();
-    let n = read(&rt, &mut out, b"cases.txt", &mut text)?;
-    each(&mut out, &text[..n])?;
-    out.flush()
+    play_cases(&rt, "cases.txt", one)
 }

@@ -1,58 +1,62 @@
 -- What the fields of a line are read as.
-use Rattle.std.specs.Prelude.{Bool, false, List, ℕ, ◌+◌, ◌/◌, ◌%◌, eqb, take, replicate}
+use Rattle.std.specs.Prelude.{Bool, ◌&&◌, List, [], ◌∷◌, ℕ, ◌+◌, ◌/◌, ◌%◌, eqb, take, Option, Some, None, option_map, option_and_then}
+use Rattle.std.specs.Option.{option_eq}
 use Rattle.word.specs.Choice.{pick}
-use Rattle.step.specs.Step.{regs_of, same_regs}
-use Rattle.octets.specs.Octets.{same_bytes}
+use Rattle.refusal.specs.Refusal.{number, place}
 use Rattle.refusal.specs.declared.Refusal.{Refusal}
-use Rattle.refusal.specs.Refusal.{number_of, place_of}
 use Rattle.table_file.specs.File.{most_words, file_words}
 use Rattle.cases.specs.Lines.{field_of}
-use Rattle.replay_line.specs.Hex.{run_of, small_of}
+use Rattle.replay_line.specs.Hex.{run_bytes, run_of, small_of}
 use Rattle.replay_line.specs.declared.hex.Run.{Run}
 use Rattle.replay_line.specs.declared.fields.Words.{Words}
 
+-- the words of what was read
+abbrev pub word_list : Words → List ℕ
+word_list w = take w.len w.words
+
 -- field i as a run
-abbrev pub run_at : List ℕ → ℕ → Run
+abbrev pub run_at : List ℕ → ℕ → Option Run
 run_at line i = run_of (field_of line i)
 
 -- its bytes
-abbrev pub bytes_at : List ℕ → ℕ → List ℕ
-bytes_at line i = take (run_at line i).len (run_at line i).bytes
+abbrev pub bytes_at : List ℕ → ℕ → Option (List ℕ)
+bytes_at line i = option_map run_bytes (run_at line i)
 
 -- field i as a number
-abbrev pub small_at : List ℕ → ℕ → ℕ
+abbrev pub small_at : List ℕ → ℕ → Option ℕ
 small_at line i = small_of (field_of line i)
 
--- no words, and not good
-abbrev pub no_words : Words
-no_words = record { good = false; len = 0; words = replicate most_words 0 }
-
 -- the words of a run, where they are whole words
-unfoldable pub run_words : Run → Words
-run_words r = pick (eqb (r.len % 4) 0) (record { good = r.good; len = r.len / 4; words = file_words r.bytes most_words }) no_words
+unfoldable pub words_of : Run → Option Words
+words_of r = pick (eqb (r.len % 4) 0) (Some (record { len = r.len / 4; words = file_words r.bytes most_words })) None
 
 -- field i as words
-abbrev pub hex_words : List ℕ → ℕ → Words
-hex_words line i = run_words (run_at line i)
+abbrev pub hex_words : List ℕ → ℕ → Option Words
+hex_words line i = option_and_then words_of (run_at line i)
 
--- whether field i is these five words
-unfoldable pub is_five : List ℕ → ℕ → List ℕ → Bool
-is_five line i w = pick (eqb (hex_words line i).len 5) (same_regs (regs_of (hex_words line i).words) (regs_of w)) false
+-- five words of a list that has five
+abbrev pub five_of_list : List ℕ → Option (List ℕ)
+five_of_list (a ∷ b ∷ c ∷ d ∷ e ∷ []) = Some (a ∷ b ∷ c ∷ d ∷ e ∷ [])
+five_of_list ws = None
+
+-- the word of a list that has one
+abbrev pub one_of_list : List ℕ → Option ℕ
+one_of_list (a ∷ []) = Some a
+one_of_list ws = None
+
+-- field i as five words, where it has five
+unfoldable pub five_at : List ℕ → ℕ → Option (List ℕ)
+five_at line i = option_and_then (λ w. five_of_list (word_list w)) (hex_words line i)
+
+-- field i as a word, where it has one
+unfoldable pub word_at : List ℕ → ℕ → Option ℕ
+word_at line i = option_and_then (λ w. one_of_list (word_list w)) (hex_words line i)
 
 -- whether field i is 1 for a mark and 0 for none
 abbrev pub is_mark : List ℕ → ℕ → Bool → Bool
-is_mark line i mark = eqb (small_at line i) (pick mark 1 0)
+is_mark line i mark = option_eq eqb (small_at line i) (Some (pick mark 1 0))
 
--- whether field i is the run of these bytes
-abbrev pub is_bytes : List ℕ → ℕ → List ℕ → Bool
-is_bytes line i bytes = same_bytes (bytes_at line i) bytes
-
--- whether field i is the run of so many pending bytes
-unfoldable pub is_pending : List ℕ → ℕ → List ℕ → ℕ → Bool
-is_pending line i pending fill = pick (run_at line i).good (pick (eqb (run_at line i).len fill) (is_bytes line i (take fill pending)) false) false
-
--- whether fields i and i + 1 are a refusal's number, which is not 0, and its place
-unfoldable pub is_refusal : List ℕ → ℕ → Refusal → Bool
+-- whether fields i and i + 1 are a refusal's number and its place
+abbrev pub is_refusal : List ℕ → ℕ → Refusal → Bool
 is_refusal line i r =
-    pick (eqb (small_at line i) 0) false
-    (pick (eqb (small_at line i) (number_of r)) (eqb (small_at line (i + 1)) (place_of r)) false)
+    option_eq eqb (small_at line i) (Some (number r)) && option_eq eqb (small_at line (i + 1)) (Some (place r))

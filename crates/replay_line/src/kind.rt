@@ -4,7 +4,7 @@ ghost use Rattle.replay_line.specs.Kinds.{named, is_refused, given_fields, answe
 
 use cases::spaces;
 
-#[derive(Clone, Copy)]
+#[derive(Clone, Copy, Debug, PartialEq, Eq)]
 pub enum Kind {
     Comment,
     Table,
@@ -15,118 +15,91 @@ pub enum Kind {
     FinishReset,
     OneShot,
     Reset,
-    // What can't be read.
-    Unread,
 }
 
-// A capital letter stands for the same, refused; a fresh hasher and its reset never are.
-fn kind_named(letter: u8) -> Kind
-    ensures { result ≡ named letter }
-{
-    match letter {
-        b't' | b'T' => Kind::Table,
-        b'b' | b'B' => Kind::Block,
-        b'n' => Kind::Fresh,
-        b'u' | b'U' => Kind::Update,
-        b'f' | b'F' => Kind::Finish,
-        b'r' | b'R' => Kind::FinishReset,
-        b'o' | b'O' => Kind::OneShot,
-        b'z' => Kind::Reset,
-        _ => Kind::Unread,
+impl Kind {
+    // The kind of a letter. A capital stands for the same, refused; a fresh hasher and its reset never are.
+    fn named(letter: u8) -> Option<Kind>
+        ensures { result ≡ named letter }
+    {
+        match letter {
+            b't' | b'T' => Some(Kind::Table),
+            b'b' | b'B' => Some(Kind::Block),
+            b'n' => Some(Kind::Fresh),
+            b'u' | b'U' => Some(Kind::Update),
+            b'f' | b'F' => Some(Kind::Finish),
+            b'r' | b'R' => Some(Kind::FinishReset),
+            b'o' | b'O' => Some(Kind::OneShot),
+            b'z' => Some(Kind::Reset),
+            _ => None,
+        }
+    }
+
+    // How many fields stand after the letter for what is given.
+    fn given_fields(self) -> usize
+        ensures value { result ≡ given_fields self }
+        ensures small { result < 5 }
+    {
+        match self {
+            Kind::Comment | Kind::Reset => 0,
+            Kind::Table | Kind::Fresh | Kind::Finish | Kind::FinishReset => 1,
+            Kind::Update | Kind::OneShot => 2,
+            Kind::Block => 4,
+        }
+    }
+
+    // How many stand after those for the answer.
+    fn answer_fields(self) -> usize
+        ensures value { result ≡ answer_fields self }
+        ensures small { result < 5 }
+    {
+        match self {
+            Kind::Comment | Kind::Table | Kind::Fresh | Kind::Reset => 0,
+            Kind::Finish | Kind::FinishReset | Kind::OneShot => 2,
+            Kind::Block | Kind::Update => 4,
+        }
+    }
+
+    // A refusal has two in place of the answer's: its number and its place.
+    fn fields(self, refused: bool) -> usize
+        ensures { result ≡ fields_of self refused }
+    {
+        self.given_fields() + if refused { 2 } else { self.answer_fields() }
+    }
+
+    // The kind, if it has so many fields.
+    fn with_fields(self, refused: bool, n: usize) -> Option<Kind>
+        ensures { result ≡ with_fields self refused n }
+    {
+        (n == self.fields(refused)).then_some(self)
     }
 }
 
-// Whether a line says that what it has is refused.
-pub fn is_refused(line: &[u8]) -> bool
+// Whether a line says that what it has is refused: it begins with a capital.
+pub fn is_refused(line: &str) -> bool
     ensures { result ≡ is_refused line.now }
 {
-    if line.len() == 0 {
-        return false;
-    }
-    if line[0] < b'A' {
-        return false;
-    }
-    line[0] <= b'Z'
-}
-
-// How many fields stand after the letter for what is given.
-fn given_fields(k: Kind) -> usize
-    ensures { (result ≡ given_fields k) × (result < 5) }
-{
-    match k {
-        Kind::Comment => 0,
-        Kind::Table => 1,
-        Kind::Block => 4,
-        Kind::Fresh => 1,
-        Kind::Update => 2,
-        Kind::Finish => 1,
-        Kind::FinishReset => 1,
-        Kind::OneShot => 2,
-        Kind::Reset => 0,
-        Kind::Unread => 0,
-    }
-}
-
-// How many stand after those for the answer.
-fn answer_fields(k: Kind) -> usize
-    ensures { (result ≡ answer_fields k) × (result < 5) }
-{
-    match k {
-        Kind::Comment => 0,
-        Kind::Table => 0,
-        Kind::Block => 4,
-        Kind::Fresh => 0,
-        Kind::Update => 4,
-        Kind::Finish => 2,
-        Kind::FinishReset => 2,
-        Kind::OneShot => 2,
-        Kind::Reset => 0,
-        Kind::Unread => 0,
-    }
-}
-
-// A refusal has two in place of the answer's: its number and its place.
-fn fields_of(k: Kind, refused: bool) -> usize
-    ensures { result ≡ fields_of k refused }
-{
-    if refused {
-        return given_fields(k) + 2;
-    }
-    given_fields(k) + answer_fields(k)
+    matches!(line.as_bytes(), [b'A'..=b'Z', ..])
 }
 
 // Whether a line's first byte is all of it, or a space stands after it.
-fn is_alone(line: &[u8]) -> bool
+fn is_alone(line: &str) -> bool
     ensures { result ≡ is_alone line.now }
 {
-    if 1 < line.len() {
-        return line[1] == b' ';
-    }
-    true
+    !matches!(line.as_bytes(), [_, after, ..] if *after != b' ')
 }
 
-// A kind that has its number of fields.
-fn with_fields(k: Kind, refused: bool, n: usize) -> Kind
-    ensures { result ≡ with_fields k refused n }
-{
-    if n == fields_of(k, refused) {
-        return k;
-    }
-    Kind::Unread
-}
-
-// A line's kind by its letter and its number of fields.
-pub fn line_kind(line: &[u8]) -> Kind
+// A line's kind by its letter and its number of fields; none where it can't be read.
+#[tactic(auto, unfolding(crate::specs::Kinds::line_kind))]
+pub fn line_kind(line: &str) -> Option<Kind>
     ensures { result ≡ line_kind line.now }
 {
-    if line.len() == 0 {
-        return Kind::Unread;
+    match line.as_bytes() {
+        [] => None,
+        [b'#', ..] => Some(Kind::Comment),
+        [letter, ..] if is_alone(line) => {
+            Kind::named(*letter)?.with_fields(is_refused(line), spaces(line))
+        }
+        _ => None,
     }
-    if line[0] == b'#' {
-        return Kind::Comment;
-    }
-    if is_alone(line) {
-        return with_fields(kind_named(line[0]), is_refused(line), spaces(line));
-    }
-    Kind::Unread
 }

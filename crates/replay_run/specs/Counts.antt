@@ -2,30 +2,41 @@
 use Rattle.std.specs.Prelude.{ℕ, ◌+◌, ◌%◌, ◌^◌, List, slice_index, slice_set}
 use Rattle.word.specs.Choice.{pick}
 use Rattle.replay_line.specs.declared.kind.Kind.{Kind}
-use Rattle.replay_line.specs.declared.kind.Kind.TheVariants.{Comment, Table, Block, Fresh, Update, Finish, FinishReset, OneShot, Reset, Unread}
+use Rattle.replay_line.specs.declared.kind.Kind.TheVariants.{Comment, Table, Block, Fresh, Update, Finish, FinishReset, OneShot, Reset}
 use Rattle.replay_line.specs.Kinds.{is_refused}
+use Rattle.replay_run.specs.declared.counts.Counted.{Counted}
+use Rattle.replay_run.specs.declared.counts.Counted.TheVariants.{Comments, Tables, Blocks, Hashers, Updates, Finishes, Closings, OneShots, Resets, Refusals, Differences}
 
--- the place of what differs or can't be read
-abbrev pub last_place : ℕ
-last_place = 10
+-- the place of a count
+abbrev pub place : Counted → ℕ
+place Comments = 0
+place Tables = 1
+place Blocks = 2
+place Hashers = 3
+place Updates = 4
+place Finishes = 5
+place Closings = 6
+place OneShots = 7
+place Resets = 8
+place Refusals = 9
+place Differences = 10
 
--- the place of a kind's count
-abbrev pub kind_place : Kind → ℕ
-kind_place Comment = 0
-kind_place Table = 1
-kind_place Block = 2
-kind_place Fresh = 3
-kind_place Update = 4
-kind_place Finish = 5
-kind_place FinishReset = 6
-kind_place OneShot = 7
-kind_place Reset = 8
-kind_place Unread = last_place
+-- what a kind counts as
+abbrev pub kind_counted : Kind → Counted
+kind_counted Comment = Comments
+kind_counted Table = Tables
+kind_counted Block = Blocks
+kind_counted Fresh = Hashers
+kind_counted Update = Updates
+kind_counted Finish = Finishes
+kind_counted FinishReset = Closings
+kind_counted OneShot = OneShots
+kind_counted Reset = Resets
 
--- the place of a line's count: one for refusals of every kind
-abbrev pub count_place : Kind → List ℕ → ℕ
-count_place k line = pick (is_refused line) 9 (kind_place k)
+-- what a line that is right counts as: refusals of every kind have one count
+abbrev pub counted : Kind → List ℕ → Counted
+counted k line = pick (is_refused line) Refusals (kind_counted k)
 
 -- the counts with one more at a place
 abbrev pub more_at : List ℕ → ℕ → List ℕ
-more_at c place = slice_set c place ((slice_index c place + 1) % 2 ^ 64)
+more_at c i = slice_set c i ((slice_index c i + 1) % 2 ^ 64)

@@ -2,28 +2,25 @@
 // must write.
 #![tactic(auto)]
 
+mod agreed;
 mod counts;
-mod one;
 mod replay;
-mod session;
+mod turns;
 
-use cases::{MOST_TEXT, page, read};
-use counts::say_counts;
-use printing::say;
+use cases::{MOST_TEXT, file_text};
 use replay::replay;
 use std::io;
 use std::io::{BufWriter, Write};
 
-// A list has fewer bytes than there is room for.
+// A list has fewer bytes than are read of it.
 fn main(rt: HostRuntime) -> io::Result<()> {
     let mut out = BufWriter::new(rt.alloc(), io::writer(&rt))?;
-    let mut text = page();
-    let n = read(&rt, &mut out, b"replay.txt", &mut text)?;
-    if n == MOST_TEXT {
-        say(&mut out, b"the list is too long\n")?;
+    let text = file_text(&rt, &mut out, "replay.txt")?;
+    if text.len() == MOST_TEXT {
+        writeln!(out, "the list is too long")?;
         return out.flush();
     }
-    let counts = replay(&mut out, &text[..n])?;
-    say_counts(&mut out, counts)?;
+    let counts = replay(&mut out, &text)?;
+    write!(out, "{counts}")?;
     out.flush()
 }

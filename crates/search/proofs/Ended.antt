@@ -8,11 +8,12 @@ use native.Mathlib.Numerals.{add-one}
 use native.Mathlib.Omega.{arith}
 use mathlib.Core.List.{List}
 use lib.ListN.{length}
+use Rattle.std.specs.Prelude.{None, Some}
 use Rattle.word.specs.Choice.{pick}
 use Rattle.step.specs.declared.Regs.{Regs}
 use Rattle.table.specs.Table.{records_in}
 use Rattle.search.specs.Marks.{selects, marks, found_in}
-use Rattle.search.specs.Search.{search_from, count_of}
+use Rattle.search.specs.Search.{search_from, is_marked, marking_place, count_of}
 use Rattle.search.specs.Ended.{NoneMarks, Ended, hit, miss}
 use Rattle.search.specs.declared.Found.{Found}
 
@@ -34,11 +35,11 @@ module _ (selected marks : ℕ → Bool) where
   unfolding search_from
   ended zero i =
       let n : i + 0 ≡ i = add-zero i in
-      subst (λ (k : ℕ). Ended selected marks (i + 0) i (record { mark = false; place = 0; tried = count_of selected k })) n (miss (λ j a b s. absurd (omega arith)))
+      subst (λ (k : ℕ). Ended selected marks (i + 0) i (record { by = None; tried = count_of selected k })) n (miss (λ j a b s. absurd (omega arith)))
   ended (suc m) i = go (ended m (suc i)) (selected i) (marks i) refl refl
     where
       go : Ended selected marks (suc i + m) (suc i) (search_from selected marks (suc i) m (count_of selected (suc i))) → (b d : Bool) → selected i ≡ b → marks i ≡ d
-          → Ended selected marks (i + suc m) i (pick (selected i) (pick (marks i) (record { mark = true; place = i; tried = suc (count_of selected i) }) (search_from selected marks (suc i) m (suc (count_of selected i)))) (search_from selected marks (suc i) m (count_of selected i)))
+          → Ended selected marks (i + suc m) i (pick (selected i) (pick (marks i) (record { by = Some i; tried = suc (count_of selected i) }) (search_from selected marks (suc i) m (suc (count_of selected i)))) (search_from selected marks (suc i) m (count_of selected i)))
       go r true true s e =
           let t : suc (count_of selected i) ≡ count_of selected (suc i) = sym (add-one (count_of selected i)) ∙ sym (counted i true s) in
           rw (s, e, t) (hit i (le_refl i) (omega arith) s e (λ j a b. absurd (omega arith)))
@@ -52,19 +53,19 @@ module _ (selected marks : ℕ → Bool) where
           rw (s, t, n) (widen (suc i + m) i (λ u. absurd (false≢true (sym s ∙ u))) r)
 
   -- marked exactly when some place is selected and marks
-  pub marked-some : {n : ℕ} {f : Found} → Ended selected marks n 0 f → f.mark ≡ true → (j : ℕ) × (j < n) × (selected j ≡ true) × (marks j ≡ true)
+  pub marked-some : {n : ℕ} {f : Found} → Ended selected marks n 0 f → is_marked f ≡ true → (j : ℕ) × (j < n) × (selected j ≡ true) × (marks j ≡ true)
   marked-some (hit p a b s m none) e = (p, b, s, m)
   marked-some (miss none) e = absurd (false≢true e)
 
   -- and then no later than any such place
-  pub some-marked : {n : ℕ} {f : Found} → Ended selected marks n 0 f → (j : ℕ) → j < n → selected j ≡ true → marks j ≡ true → (f.mark ≡ true) × (f.place ≤ j)
+  pub some-marked : {n : ℕ} {f : Found} → Ended selected marks n 0 f → (j : ℕ) → j < n → selected j ≡ true → marks j ≡ true → (is_marked f ≡ true) × (marking_place f ≤ j)
   some-marked (hit p a b s m none) j l t e =
       let q : p < suc j = lt_of_not-le (λ k. false≢true (sym (none j (omega arith) k t) ∙ e)) in
       (refl, omega arith)
   some-marked (miss none) j l t e = absurd (false≢true (sym (none j (omega arith) l t) ∙ e))
 
   -- nothing is tried where nothing is selected
-  pub none_tried : ((j : ℕ) → selected j ≡ false) → (n i k : ℕ) → search_from selected marks i n k ≡ record { mark = false; place = 0; tried = k }
+  pub none_tried : ((j : ℕ) → selected j ≡ false) → (n i k : ℕ) → search_from selected marks i n k ≡ record { by = None; tried = k }
   unfolding search_from
   none_tried h zero i k = refl
   none_tried h (suc n) i k = rw (h i) (none_tried h n (suc i) k)

@@ -7,6 +7,7 @@ use native.Mathlib.Numerals.{add-one}
 use native.Mathlib.Omega.{arith}
 use lib.Dec.{eqb}
 use lib.Pow.{pow_mono}
+use Rattle.std.specs.Prelude.{None, Some}
 use Rattle.table.specs.Bits.{has_bit}
 use Rattle.search.specs.Search.{search_from}
 
@@ -26,13 +27,13 @@ module _ (selected marks : ℕ → Bool) (i n k : ℕ) where
       rw (e, add-one i, add-one k, s, m)
 
   pub turn-hit : i < n → selected i ≡ true → marks i ≡ true
-      → search_from selected marks i (n - i) k ≡ record { mark = true; place = i; tried = k + 1 }
+      → search_from selected marks i (n - i) k ≡ record { by = Some i; tried = k + 1 }
   unfolding search_from
   turn-hit h s m =
       let e : n - i ≡ suc (n - (i + 1)) = omega arith in
       rw (e, add-one k, s, m)
 
-  pub turn-done : n ≤ i → search_from selected marks i (n - i) k ≡ record { mark = false; place = 0; tried = k }
+  pub turn-done : n ≤ i → search_from selected marks i (n - i) k ≡ record { by = None; tried = k }
   unfolding search_from
   turn-done h =
       let e : n - i ≡ 0 = omega arith in

@@ -1,5 +1,5 @@
 -- What a search may end with, for any selection and any test, in the words of 01: the first selected record that marks, or none.
-use Rattle.std.specs.Prelude.{◌≡◌, Bool, true, false, ℕ, suc, ◌≤◌, ◌<◌}
+use Rattle.std.specs.Prelude.{◌≡◌, Bool, true, false, ℕ, suc, ◌≤◌, ◌<◌, None, Some}
 use Rattle.search.specs.Search.{count_of}
 use Rattle.search.specs.declared.Found.{Found}
 
@@ -12,6 +12,6 @@ module _ (selected marks : ℕ → Bool) where
   pub data Ended (n i : ℕ) : Found → Type 0 where
     -- the first selected place that marks, with the selected ones up to it and with it
     hit : (p : ℕ) → i ≤ p → p < n → selected p ≡ true → marks p ≡ true → NoneMarks i p
-        → Ended n i (record { mark = true; place = p; tried = count_of selected (suc p) })
-    -- no mark, place 0, and all selected ones
-    miss : NoneMarks i n → Ended n i (record { mark = false; place = 0; tried = count_of selected n })
+        → Ended n i (record { by = Some p; tried = count_of selected (suc p) })
+    -- no mark, and all selected ones
+    miss : NoneMarks i n → Ended n i (record { by = None; tried = count_of selected n })

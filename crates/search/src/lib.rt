@@ -2,37 +2,42 @@
 // ends the search.
 #![tactic(auto)]
 
-ghost use Rattle.std.specs.Prelude.{◌≡◌, ◌+◌, ◌*◌, ◌≤◌, length};
+ghost use Rattle.std.specs.Prelude.{◌≡◌};
 ghost use Rattle.block.specs.Compress.{states_of};
 ghost use Rattle.sibling.specs.Sibling.{recompressed};
-ghost use Rattle.table.specs.Limits.{record_words};
 ghost use Rattle.table.specs.Bits.{has_bit};
 ghost use Rattle.table.specs.Table.{steps_before};
-ghost use Rattle.search.specs.Marks.{state_kept, ends_from, marks, found_in};
+ghost use Rattle.search.specs.Marks.{state_kept, ends_by, marks_by, found_in};
 
 use block::States;
 use sibling::{Ends, recompress_fast_58, recompress_fast_65, sibling_schedule};
-use step::{Regs, same_regs};
+use step::Regs;
 use table::{MASK_BITS, RECORD_WORDS, Testt, test_step};
 
 // What a search found.
-#[derive(Clone, Copy)]
+#[derive(Clone, Copy, Debug, PartialEq, Eq)]
 pub struct Found {
-    pub mark: bool,
-    // The marking record's place, 0 without a mark.
-    pub place: usize,
+    // The place of the record that marks the block.
+    pub by: Option<usize>,
     // The selected records up to the marking one and with it, or all of them.
     pub tried: usize,
 }
 
+// A block as the search looks at it: where it started from, its schedule, and what its compression left.
+#[derive(Clone, Copy)]
+pub struct Compressed<'a> {
+    pub start: Regs,
+    pub schedule: &'a [u32; 80],
+    pub states: States,
+    ghost kept: { states ≡ states_of start schedule.now },
+}
+
 // Whether the mask has bit k.
+#[tactic(auto, using(crate::proofs::Turns::past_the_end))]
 fn has_bit(mask: u32, k: u32) -> bool
     ensures { result ≡ has_bit mask k }
 {
-    if k < MASK_BITS {
-        return (mask >> k) % 2 == 1;
-    }
-    false
+    k < MASK_BITS && (mask >> k) % 2 == 1
 }
 
 // The sibling's compression from the state at the test step.
@@ -45,54 +50,37 @@ fn recompression_step(at: Testt, v: &[u32; 80], s: States) -> Ends
     }
 }
 
-// The sibling by record i of the block with the schedule w and the states s.
-fn sibling_ends(s: States, w: &[u32; 80], table: &[u32], i: usize) -> Ends
-    requires { record_words * i + record_words ≤ length table.now }
-    ensures { result ≡ ends_from s w.now table.now i }
-{
-    let at = RECORD_WORDS * i;
-    let dm = &table[at + 2..at + RECORD_WORDS];
-    let v = sibling_schedule(w, dm);
-    recompression_step(test_step(table[at + 1]), &v, s)
-}
-
-// Whether record i marks the block that started from h.
-fn record_marks(reduced: bool, h: Regs, s: States, w: &[u32; 80], table: &[u32], i: usize) -> bool
-    requires record_words_in_bounds { record_words * i + record_words ≤ length table.now }
-    requires s_value { s ≡ states_of h w.now }
-    ensures { result ≡ marks reduced h w.now table.now i }
-{
-    let ends = sibling_ends(s, w, table, i);
-    if same_regs(ends.out, s.out) {
-        return true;
+impl<'a> Compressed<'a> {
+    // The block's sibling by a record.
+    fn sibling_ends(self, record: &[u32; RECORD_WORDS]) -> Ends
+        ensures { result ≡ ends_by self.entry.states self.entry.schedule.now record.now }
+    {
+        let v = sibling_schedule(self.schedule, &record[2..]);
+        recompression_step(test_step(record[1]), &v, self.states)
     }
-    if reduced {
-        return same_regs(ends.start, h);
-    }
-    false
-}
 
-// The first selected record that marks the block, and how many were tried.
-pub fn search(reduced: bool, table: &[u32], h: Regs, s: States, w: &[u32; 80], mask: u32) -> Found
-    requires { s ≡ states_of h w.now }
-    ensures { result ≡ found_in reduced table.now h w.now mask }
-{
-    let mut tried = 0;
-    for i in 0..table.len() / RECORD_WORDS {
-        if has_bit(mask, table[RECORD_WORDS * i]) {
-            tried += 1;
-            if record_marks(reduced, h, s, w, table, i) {
-                return Found {
-                    mark: true,
-                    place: i,
-                    tried,
-                };
+    // Whether a record marks the block: in reduced-round mode also by a sibling that starts where the block starts.
+    fn is_marked_by(self, record: &[u32; RECORD_WORDS], reduced: bool) -> bool
+        ensures { result ≡ marks_by reduced self.entry.start self.entry.schedule.now record.now }
+    {
+        let ends = self.sibling_ends(record);
+        ends.out == self.states.out || (reduced && ends.start == self.start)
+    }
+
+    // The first selected record that marks the block, and how many were tried.
+    pub fn search(self, reduced: bool, table: &[u32], mask: u32) -> Found
+        ensures { result ≡ found_in reduced table.now self.entry.start self.entry.schedule.now mask }
+    {
+        let (records, _) = table.as_chunks::<RECORD_WORDS>();
+        let mut tried = 0;
+        for (i, record) in records.iter().enumerate() {
+            if has_bit(mask, record[0]) {
+                tried += 1;
+                if self.is_marked_by(record, reduced) {
+                    return Found { by: Some(i), tried };
+                }
             }
         }
-    }
-    Found {
-        mark: false,
-        place: 0,
-        tried,
+        Found { by: None, tried }
     }
 }

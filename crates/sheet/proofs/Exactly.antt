@@ -6,8 +6,8 @@ use mathlib.Core.Logic.{◌↔◌}
 use Prim.Native.Nat.{ℕ, ◌≤◌, ◌<◌}
 use native.Mathlib.Nat.{lt_of_not-le, le_of_suc-le-suc}
 use native.Mathlib.Omega.{arith}
-use borrow.Author.Tests.{eq-eqb, eqb-true}
-use Rattle.refusal.specs.Refusal.{number_of, is_nothing}
+use Rattle.std.specs.Prelude.{is_ok}
+use Rattle.refusal.proofs.Chains.{passes, numberless}
 use Rattle.sheet.specs.Sheet.{digest_at, records_on, record_for, lookup_refusal, part_of}
 use Rattle.sheet.specs.Exactly.{Accepted, FirstRecord, NoRecord}
 use Rattle.sheet.proofs.First.{found-has, none-earlier, found-exactly}
@@ -36,8 +36,8 @@ module _ (s c : List ℕ) where
   )
 
   -- nothing is refused
-  pub accepted-exactly : (is_nothing (lookup_refusal s c) ≡ true) ↔ Accepted s c
-  accepted-exactly = (λ h. (none-exactly s c).0 (eqb-true (number_of (lookup_refusal s c)) 0 h), λ a. eq-eqb (number_of (lookup_refusal s c)) 0 ((none-exactly s c).1 a))
+  pub accepted-exactly : (is_ok (lookup_refusal s c) ≡ true) ↔ Accepted s c
+  accepted-exactly = (λ h. (none-exactly s c).0 (numberless (lookup_refusal s c) h), λ a. passes (lookup_refusal s c) ((none-exactly s c).1 a))
 
   -- the part that a lookup finds is the digest of the first record with the barcode, or empty where none has it
   pub part-of-first : Accepted s c → (k : ℕ) → FirstRecord s c k → part_of s c ≡ digest_at s k

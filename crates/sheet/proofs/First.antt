@@ -3,45 +3,15 @@ use mathlib.Core.Path.{◌≡◌, refl, sym, ap, ◌∙◌}
 use mathlib.Core.Bool.{Bool, true, false, false≢true}
 use mathlib.Core.List.{List}
 use mathlib.Core.Logic.{◌↔◌, ⊎_elim}
-use Prim.Native.Nat.{ℕ, zero, suc, ◌+◌, ◌-◌, ◌*◌, ◌≤◌, ◌<◌}
-use native.Mathlib.Nat.{add-sub_cancel_left, eq-or-lt_of_le, lt_of_not-le}
-use native.Mathlib.Numerals.{add-one}
+use Prim.Native.Nat.{ℕ, zero, suc, ◌+◌, ◌≤◌, ◌<◌}
+use native.Mathlib.Nat.{eq-or-lt_of_le, lt_of_not-le}
 use native.Mathlib.Omega.{arith}
-use lib.ListN.{take, drop}
 use Rattle.word.specs.Choice.{pick}
 use Rattle.octets.specs.Octets.{same_bytes}
-use Rattle.sheet.specs.Sheet.{barcode_size, record_size, barcode_at, first_from, record_for, records_on}
+use Rattle.sheet.specs.Sheet.{barcode_at, first_from, record_for, records_on}
 use Rattle.octets.proofs.Same.{same-exactly}
 
--- record k's barcode as the code cuts it out
-abbrev cut : List ℕ → ℕ → List ℕ
-cut s k = take (record_size * k + barcode_size - record_size * k) (drop (record_size * k) s)
-
-cut-is : (s : List ℕ) (k : ℕ) → cut s k ≡ barcode_at s k
-cut-is s k = rw (add-sub_cancel_left (record_size * k) barcode_size)
-
 module _ (s c : List ℕ) where
-  -- the turns of the search over n records, where t says whether record k has the barcode
-  module _ (k n : ℕ) (h : k < n) {t : Bool} (e : t ≡ same_bytes (cut s k) c) where
-    turn : first_from s c k (n - k) ≡ pick t k (first_from s c (k + 1) (n - (k + 1)))
-    unfolding first_from
-    turn =
-        let f : n - k ≡ suc (n - (k + 1)) = omega arith in
-        rw (f, e, cut-is s k, add-one k)
-
-    pub first-here : t ≡ true → first_from s c k (n - k) ≡ k
-    first-here g = turn ∙ rw g
-
-    pub first-later : t ≡ false → first_from s c k (n - k) ≡ first_from s c (k + 1) (n - (k + 1))
-    first-later g = turn ∙ rw g
-
-  pub first-none : (k n : ℕ) → k ≤ n → n ≤ k → first_from s c k (n - k) ≡ n
-  unfolding first_from
-  first-none k n g h =
-      let e : n - k ≡ 0 = omega arith in
-      let f : k ≡ n = omega arith in
-      rw e f
-
   -- the search over the n records from place k on ends at q: no further than past them, at a record with the barcode unless it is
   -- past them, and no record passed has it
   record Ends (k n q : ℕ) : Type 0 where

@@ -1,12 +1,11 @@
 -- A sheet of barcodes: records of a barcode and a digest, with no header. 01, "The barcode sheet and the program".
-use Rattle.std.specs.Prelude.{Bool, not, ◌&&◌, List, ℕ, zero, suc, ◌+◌, ◌*◌, ◌/◌, ◌%◌, eqb, ltb, length, take, drop}
+use Rattle.std.specs.Prelude.{Bool, not, ◌&&◌, List, ℕ, zero, suc, ◌+◌, ◌*◌, ◌/◌, ◌%◌, eqb, ltb, length, take, drop, Option, None, Some, Err, Ok, is_ok}
 use Rattle.std.specs.Borrow.{Bor}
 use Rattle.word.specs.Choice.{pick}
 use Rattle.octets.specs.Octets.{same_bytes}
 use Rattle.verdict.specs.Verdict.{digest_size}
-use Rattle.refusal.specs.Refusal.{is_nothing}
-use Rattle.refusal.specs.declared.Refusal.{Refusal}
-use Rattle.refusal.specs.declared.Refusal.TheVariants.{Nothing, Size, SheetLength}
+use Rattle.refusal.specs.Refusal.{Checked}
+use Rattle.refusal.specs.declared.Refusal.TheVariants.{Size, SheetLength}
 
 -- bytes in a barcode
 abbrev pub barcode_size : ℕ
@@ -41,17 +40,26 @@ record_for sheet code = first_from sheet code 0 (records_on sheet)
 abbrev pub on_sheet : List ℕ → List ℕ → Bool
 on_sheet sheet code = ltb (record_for sheet code) (records_on sheet)
 
+-- that record, where the sheet has one
+abbrev pub record_found : List ℕ → List ℕ → Option ℕ
+record_found sheet code = pick (on_sheet sheet code) (Some (record_for sheet code)) None
+
 -- what a lookup refuses: a barcode of another size, else a sheet that is no whole number of records
-unfoldable pub lookup_refusal : List ℕ → List ℕ → Refusal
+unfoldable pub lookup_refusal : List ℕ → List ℕ → Checked
 lookup_refusal sheet code =
-    pick (not (eqb (length code) barcode_size)) Size
-    (pick (not (eqb (length sheet % record_size) 0)) SheetLength
-    Nothing)
+    pick (not (eqb (length code) barcode_size)) (Err Size)
+    (pick (not (eqb (length sheet % record_size) 0)) (Err SheetLength)
+    (Ok tt))
+
+-- where the digest of the record found begins, where nothing is refused and there is one
+unfoldable pub digest_from : List ℕ → List ℕ → Option ℕ
+digest_from sheet code =
+    pick (is_ok (lookup_refusal sheet code) && on_sheet sheet code) (Some (record_size * record_for sheet code + barcode_size)) None
 
 -- where the part handed back begins: at the digest of the record found, else at the sheet's end
 unfoldable pub part_from : List ℕ → List ℕ → ℕ
 part_from sheet code =
-    pick (is_nothing (lookup_refusal sheet code) && on_sheet sheet code) (record_size * record_for sheet code + barcode_size) (length sheet)
+    pick (is_ok (lookup_refusal sheet code) && on_sheet sheet code) (record_size * record_for sheet code + barcode_size) (length sheet)
 
 -- the part handed back: that digest, else nothing
 abbrev pub part_of : List ℕ → List ℕ → List ℕ

@@ -4,65 +4,38 @@
 #![tactic(auto)]
 
 use cases::{
-    field, fill_from, flags_of_bits, from_field, front_bytes, line_at, next_line, number_at, page,
-    read,
+    each_case, field, file_filling, file_text, flags_of_bits, from_field, front, number_at,
 };
-use comparison::{Compared, Comparison, compare, comparison_word};
-use finish::Outcome;
-use octets::store;
-use one_shot::{Digested, whole};
-use printing::{say, say_answer, say_decimal};
-use refusal::{Refusal, number};
+use comparison::{Comparison, compare};
+use loan::Lent;
+use one_shot::whole;
+use printing::Said;
+use refusal::{Refusal, number_of};
 use sheet::{lookup, lookup_refusal};
 use std::io;
 use std::io::{BufWriter, Write};
 use std::rt::Files;
 use table_file::{MOST_WORDS, file_words};
-use verdict::Verdict;
+use verdict::{DIGEST_SIZE, Verdict};
 
-fn say_letter<W: Write>(out: &mut W, b: u8) -> io::Result<()> {
-    if b != 0 {
-        say(out, &[b])?;
-    }
-    Ok(())
-}
+// Bytes of the longest message, and of the sheet's file.
+const MOST_MESSAGE: usize = 320;
 
-// A word without the zeros behind it.
-fn say_word<W: Write>(out: &mut W, word: &[u8]) -> io::Result<()> {
-    for i in 0..word.len() {
-        say_letter(out, word[i])?;
-    }
-    Ok(())
-}
-
-fn say_seven<W: Write>(out: &mut W, word: &[u8; 7]) -> io::Result<()> {
-    say_word(out, word)
-}
-
-fn say_comparison<W: Write>(out: &mut W, answer: Comparison) -> io::Result<()> {
-    say_seven(out, &comparison_word(answer))
-}
-
-fn say_refused<W: Write>(out: &mut W, r: Refusal) -> io::Result<()> {
-    say(out, b"refused ")?;
-    say_decimal(out, number(r) as u64)
-}
+const SHEET: usize = 64;
 
 // The sheet is the front of field 3.
-fn sheet_of(line: &[u8]) -> &[u8] {
-    front_bytes(field(line, 3), number_at(line, 2))
+fn sheet_of(line: &str) -> &[u8] {
+    front(field(line, 3).as_bytes(), number_at(line, 2))
 }
 
 // The number of a lookup, and the part that it hands back.
-fn look<W: Write>(out: &mut W, line: &[u8]) -> io::Result<()> {
+fn look<W: Write>(out: &mut W, line: &str) -> io::Result<()> {
     let records = sheet_of(line);
-    let code = field(line, 1);
-    say(out, from_field(line, 4))?;
-    say(out, b": ")?;
-    say_decimal(out, number(lookup_refusal(records, code)) as u64)?;
-    say(out, b" [")?;
-    say(out, lookup(records, code))?;
-    say(out, b"]\n")
+    let code = field(line, 1).as_bytes();
+    let refused = number_of(lookup_refusal(records, code));
+    write!(out, "{}: {refused} [", from_field(line, 4))?;
+    out.write_all(lookup(records, code))?;
+    writeln!(out, "]")
 }
 
 fn verdict_of(n: usize) -> Verdict {
@@ -73,144 +46,82 @@ fn verdict_of(n: usize) -> Verdict {
     }
 }
 
-fn digest_of(bytes: &[u8]) -> [u8; 20] {
-    let mut digest = [0u8; 20];
-    if bytes.len() == 20 {
-        store(&mut digest, 0, bytes, 20);
-    }
-    digest
+// 20 bytes as a digest; zeros for any other number of them.
+fn digest_of(bytes: &[u8]) -> [u8; DIGEST_SIZE] {
+    <[u8; DIGEST_SIZE]>::try_from(bytes).unwrap_or([0; DIGEST_SIZE])
 }
 
-fn compared(line: &[u8]) -> Compared {
-    let verdict = verdict_of(number_at(line, 4));
-    compare(
-        sheet_of(line),
-        field(line, 1),
-        verdict,
-        digest_of(field(line, 5)),
-    )
-}
-
-fn say_compared<W: Write>(out: &mut W, c: Compared) -> io::Result<()> {
-    match c {
-        Compared::Said(answer) => say_comparison(out, answer)?,
-        Compared::Refused(r) => say_refused(out, r)?,
+fn say_compared<W: Write>(out: &mut W, answer: Result<Comparison, Refusal>) -> io::Result<()> {
+    match answer {
+        Ok(said) => writeln!(out, "{said}"),
+        Err(refusal) => writeln!(out, "refused {}", refusal.number()),
     }
-    say(out, b"\n")
 }
 
 // The answer of a comparison.
-fn hold<W: Write>(out: &mut W, line: &[u8]) -> io::Result<()> {
-    say(out, from_field(line, 6))?;
-    say(out, b": ")?;
-    say_compared(out, compared(line))
+fn hold<W: Write>(out: &mut W, line: &str) -> io::Result<()> {
+    let answer = compare(
+        sheet_of(line),
+        field(line, 1).as_bytes(),
+        verdict_of(number_at(line, 4)),
+        digest_of(field(line, 5).as_bytes()),
+    );
+    write!(out, "{}: ", from_field(line, 6))?;
+    say_compared(out, answer)
 }
 
-// What the sheet's file says of a verdict and a digest.
-fn say_held<R: Files, W: Write>(
+// A file hashed with the flags of field 2 and masks off, so that neither masks nor conditions are looked at; and what the sheet's
+// file says of the verdict and the digest.
+fn audit<R: Files + AllocGlobal, W: Write>(
     rt: &R,
     out: &mut W,
-    line: &[u8],
-    verdict: Verdict,
-    digest: [u8; 20],
+    line: &str,
+    table: &[u32],
 ) -> io::Result<()> {
-    let mut records = [0u8; 64];
-    fill_from(rt, out, b"audit.sheet", &mut records)?;
-    say(out, b", ")?;
-    say_compared(out, compare(&records, field(line, 1), verdict, digest))
-}
-
-// The answer to a message, and what the sheet's file says of it.
-fn say_audit<R: Files, W: Write>(rt: &R, out: &mut W, line: &[u8], d: Digested) -> io::Result<()> {
-    let outcome = d.outcome;
-    let digest = d.digest;
-    say(out, from_field(line, 5))?;
-    say(out, b": ")?;
-    say_answer(out, outcome, &digest)?;
-    match outcome {
-        Outcome::Done(verdict) => say_held(rt, out, line, verdict, digest),
-        Outcome::Refused(_) => say(out, b"\n"),
-    }
-}
-
-fn audit_front<R: Files, W: Write>(
-    rt: &R,
-    out: &mut W,
-    line: &[u8],
-    m: &[u8; 320],
-    table: &[u32; MOST_WORDS],
-) -> io::Result<()> {
-    let flags = flags_of_bits(number_at(line, 2));
-    say_audit(
-        rt,
-        out,
-        line,
-        whole(
-            flags,
-            front_bytes(m, number_at(line, 4)),
-            table,
-            &[0u32],
-            &[0u32],
-        ),
-    )
-}
-
-// A file hashed with the flags of field 2 and masks off, so that neither masks nor conditions are looked at, and held against the sheet's file.
-fn audit<R: Files, W: Write>(
-    rt: &R,
-    out: &mut W,
-    line: &[u8],
-    table: &[u32; MOST_WORDS],
-) -> io::Result<()> {
-    let mut m = [0u8; 320];
     let n = number_at(line, 4);
-    if n <= 320 {
-        fill_from(rt, out, field(line, 3), &mut m[0..n])?;
-        audit_front(rt, out, line, &m, table)?;
-    }
-    Ok(())
-}
-
-// A line of the cases: any but these is a comment.
-fn one<R: Files, W: Write>(
-    rt: &R,
-    out: &mut W,
-    line: &[u8],
-    table: &[u32; MOST_WORDS],
-) -> io::Result<()> {
-    if line.len() == 0 {
+    if n > MOST_MESSAGE {
         return Ok(());
     }
-    match line[0] {
-        b'l' => look(out, line),
-        b'c' => hold(out, line),
-        b'a' => audit(rt, out, line, table),
-        _ => Ok(()),
+    let message = file_filling(rt, out, field(line, 3), n)?;
+    let lent = Lent {
+        table,
+        conditions: &[0],
+        masks: &[0],
+    };
+    let flags = flags_of_bits(number_at(line, 2));
+    let ended = whole(flags, &message, lent);
+    write!(out, "{}: {}", from_field(line, 5), Said(ended))?;
+    match ended {
+        Ok(d) => {
+            let records = file_filling(rt, out, "audit.sheet", SHEET)?;
+            let code = field(line, 1).as_bytes();
+            write!(out, ", ")?;
+            say_compared(out, compare(&records, code, d.verdict, d.digest))
+        }
+        Err(_) => writeln!(out),
     }
 }
 
-fn each<R: Files, W: Write>(
+fn one<R: Files + AllocGlobal, W: Write>(
     rt: &R,
     out: &mut W,
-    text: &[u8],
-    table: &[u32; MOST_WORDS],
+    line: &str,
+    table: &[u32],
 ) -> io::Result<()> {
-    let mut at = 0;
-    while at < text.len() {
-        one(rt, out, line_at(text, at), table)?;
-        at = next_line(text, at);
+    match field(line, 0) {
+        "l" => look(out, line),
+        "c" => hold(out, line),
+        "a" => audit(rt, out, line, table),
+        _ => Ok(()),
     }
-    Ok(())
 }
 
 // The cases, with the table of a file.
 fn main(rt: HostRuntime) -> io::Result<()> {
     let mut out = BufWriter::new(rt.alloc(), io::writer(&rt))?;
-    let mut text = page();
-    let mut bytes = [0u8; 10496];
-    let n = read(&rt, &mut out, b"cases.txt", &mut text)?;
-    fill_from(&rt, &mut out, b"real-table.bin", &mut bytes)?;
+    let text = file_text(&rt, &mut out, "cases.txt")?;
+    let bytes = file_filling(&rt, &mut out, "real-table.bin", 4 * MOST_WORDS)?;
     let table = file_words(&bytes);
-    each(&rt, &mut out, &text[..n], &table)?;
+    each_case(&text, &mut out, |out, line| one(&rt, out, line, &table))?;
     out.flush()
 }

@@ -1,6 +1,5 @@
 -- The hasher of one message, once for each way to update it: by value, in place, and on lane 1 of a bench of three.
-use Rattle.std.specs.Prelude.{List, ℕ, eqb, replicate}
-use Rattle.word.specs.Choice.{pick}
+use Rattle.std.specs.Prelude.{List, ℕ, replicate}
 use Rattle.flags.specs.declared.Flags.{Flags}
 use Rattle.loan.specs.Loan.{Loan}
 use Rattle.hasher.specs.Hasher.{fresh_of}
@@ -9,6 +8,8 @@ use Rattle.update.specs.Update.{updated}
 use Rattle.verdict.specs.Verdict.{digest_size}
 use Rattle.finish.specs.Finish.{finished_reset}
 use Rattle.bench_by_value.specs.ByValue.{updated_through, finished_through}
+use Rattle.short_run.specs.declared.calls.Call.{Call}
+use Rattle.short_run.specs.declared.calls.Call.TheVariants.{Update, Finish}
 use Rattle.short_run.specs.declared.ways.Ways.{Ways}
 
 -- new hashers
@@ -33,6 +34,7 @@ abbrev pub ways_finished : Ways → Loan → Ways
 ways_finished w l =
     record { value = w.value; place = (finished_reset w.place digest_size l).hasher; lanes = lanes_finished w.lanes l }
 
--- the hashers after the call that a letter names: `u` an update with some bytes, any other a finish
-abbrev pub after_call : ℕ → Ways → List ℕ → Loan → Ways
-after_call letter w bytes l = pick (eqb letter 0x75) (ways_updated w bytes l) (ways_finished w l)
+-- the hashers after a call: an update with some bytes, or a finish
+abbrev pub after_call : Call → Ways → List ℕ → Loan → Ways
+after_call Update w bytes l = ways_updated w bytes l
+after_call Finish w bytes l = ways_finished w l

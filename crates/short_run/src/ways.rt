@@ -4,9 +4,7 @@ ghost use Rattle.short_run.specs.Ways.{ways_new};
 
 use flags::Flags;
 use hasher::Hasher;
-use printing::{say, say_decimal};
-use std::io;
-use std::io::Write;
+use std::fmt;
 
 // Lanes that are lent as the bench, and the one that calls name.
 pub const LANES: usize = 3;
@@ -34,14 +32,13 @@ pub(crate) fn ways_new(flags: Flags) -> Ways
 }
 
 // What is seen of a hasher that comes back. Its words and its pending bytes are seen by the digest of a later finish.
-pub(crate) fn say_counts<W: Write>(out: &mut W, h: Hasher) -> io::Result<()> {
-    say(out, b", fill ")?;
-    say_decimal(out, h.fill as u64)?;
-    say(out, b", blocks ")?;
-    say_decimal(out, h.blocks)?;
-    if h.mark {
-        say(out, b", marked")
-    } else {
-        say(out, b", unmarked")
+#[derive(Clone, Copy)]
+pub struct Counts(pub Hasher);
+
+impl fmt::Display for Counts {
+    fn fmt<W: fmt::Write>(&self, f: &mut fmt::Formatter<W>) -> fmt::Result {
+        let h = self.0;
+        let marked = if h.mark { "marked" } else { "unmarked" };
+        write!(f, "fill {}, blocks {}, {marked}", h.fill, h.blocks)
     }
 }

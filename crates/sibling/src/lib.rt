@@ -1,13 +1,13 @@
 // The sibling of a block: its schedule, and its compression worked out from a state inside.
 #![tactic(auto)]
 
-ghost use Rattle.std.specs.Prelude.{◌≡◌, length};
+ghost use Rattle.std.specs.Prelude.{◌≡◌, ◌≤◌, length};
 ghost use Rattle.sibling.specs.Sibling.{sibling_schedule, recompressed};
 
 use step::{Regs, add_regs, steps, undos};
 
 // Where a compression started and where it ended.
-#[derive(Clone, Copy)]
+#[derive(Clone, Copy, Debug, PartialEq, Eq)]
 pub struct Ends {
     pub start: Regs,
     pub out: Regs,
@@ -25,30 +25,34 @@ pub fn sibling_schedule(w: &[u32; 80], dm: &[u32]) -> [u32; 80]
     v
 }
 
+// The compression over the schedule w that has the state s after its first N steps: back to the start and on to the end, each
+// round by itself, with ends that are known where N is.
+fn recompress<const N: usize>(w: &[u32; 80], s: Regs) -> Ends
+    requires { (40 ≤ N) × (N ≤ 80) }
+    ensures { result ≡ recompressed w.now N s }
+{
+    let (low, high) = (N.min(60), N.max(60));
+    let s60 = undos(60, high, s, w);
+    let s40 = undos(40, low, s60, w);
+    let s20 = undos(20, 40, s40, w);
+    let start = undos(0, 20, s20, w);
+    let end = steps(high, 80, steps(N, high, s, w), w);
+    Ends {
+        start,
+        out: add_regs(start, end),
+    }
+}
+
 // The compression over the schedule w that has the state s after steps 0 to 57.
 pub fn recompress_fast_58(w: &[u32; 80], s: Regs) -> Ends
     ensures { result ≡ recompressed w.now 58 s }
 {
-    let s40 = undos(40, 58, s, w);
-    let s20 = undos(20, 40, s40, w);
-    let start = undos(0, 20, s20, w);
-    let s60 = steps(58, 60, s, w);
-    Ends {
-        start,
-        out: add_regs(start, steps(60, 80, s60, w)),
-    }
+    recompress::<58>(w, s)
 }
 
 // The compression over the schedule w that has the state s after steps 0 to 64.
 pub fn recompress_fast_65(w: &[u32; 80], s: Regs) -> Ends
     ensures { result ≡ recompressed w.now 65 s }
 {
-    let s60 = undos(60, 65, s, w);
-    let s40 = undos(40, 60, s60, w);
-    let s20 = undos(20, 40, s40, w);
-    let start = undos(0, 20, s20, w);
-    Ends {
-        start,
-        out: add_regs(start, steps(65, 80, s, w)),
-    }
+    recompress::<65>(w, s)
 }

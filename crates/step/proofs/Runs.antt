@@ -50,6 +50,21 @@ unfolding undos_of
 undos-add w n zero t s = rw (add-zero n)
 undos-add w n (suc m) t s = rw (add-suc n m, add_assoc t n m) (undos-add w n m t (undo_at (t + (n + m)) s (get_or w (t + (n + m)) 0)))
 
+-- two runs that meet at step `mid`
+pub steps_through : (w : List ℕ) (from mid to : ℕ) (s : Regs) → from ≤ mid → mid ≤ to
+    → steps_of w mid (to - mid) (steps_of w from (mid - from) s) ≡ steps_of w from (to - from) s
+steps_through w from mid to s h l =
+    let a : to - from ≡ (mid - from) + (to - mid) = omega arith in
+    let b : from + (mid - from) ≡ mid = omega arith in
+    sym (ap (λ (n : ℕ). steps_of w from n s) a ∙ steps-add w (mid - from) (to - mid) from s ∙ ap (λ (t : ℕ). steps_of w t (to - mid) (steps_of w from (mid - from) s)) b)
+
+pub undos_through : (w : List ℕ) (from mid to : ℕ) (s : Regs) → from ≤ mid → mid ≤ to
+    → undos_of w from (mid - from) (undos_of w mid (to - mid) s) ≡ undos_of w from (to - from) s
+undos_through w from mid to s h l =
+    let a : to - from ≡ (mid - from) + (to - mid) = omega arith in
+    let b : from + (mid - from) ≡ mid = omega arith in
+    sym (ap (λ (n : ℕ). undos_of w from n s) a ∙ undos-add w (mid - from) (to - mid) from s ∙ ap (λ (t : ℕ). undos_of w from (mid - from) (undos_of w t (to - mid) s)) b)
+
 -- the last step by itself
 pub steps-last : (w : List ℕ) (n t : ℕ) (s : Regs) → steps_of w t (suc n) s ≡ step_at (t + n) (steps_of w t n s) (get_or w (t + n) 0)
 unfolding steps_of

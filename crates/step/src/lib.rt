@@ -7,7 +7,7 @@ ghost use Rattle.step.specs.Step.{step_with, undo_with, step_at, undo_at, steps_
 use word::{add, f1, f2, f3, f4, rotate_left, sub};
 
 // The five working words, in the order of FIPS 180-4.
-#[derive(Clone, Copy)]
+#[derive(Clone, Copy, Debug, PartialEq, Eq)]
 pub struct Regs {
     pub a: u32,
     pub b: u32,
@@ -20,20 +20,14 @@ pub struct Regs {
 pub fn regs_of(h: [u32; 5]) -> Regs
     ensures { result ≡ regs_of h }
 {
-    Regs {
-        a: h[0],
-        b: h[1],
-        c: h[2],
-        d: h[3],
-        e: h[4],
-    }
+    Regs::from(h)
 }
 
 // The registers as five chaining words.
 pub fn five_of(s: Regs) -> [u32; 5]
     ensures { result ≡ five_of s }
 {
-    [s.a, s.b, s.c, s.d, s.e]
+    s.into()
 }
 
 // The sum that wraps, word by word.
@@ -53,22 +47,28 @@ pub fn add_regs(s: Regs, r: Regs) -> Regs
 pub fn same_regs(s: Regs, r: Regs) -> bool
     ensures { result ≡ same_regs s r }
 {
-    if s.a != r.a {
-        return false;
+    s == r
+}
+
+impl From<[u32; 5]> for Regs {
+    ghost from_gives = { λ h s. s ≡ regs_of h };
+
+    fn from(h: [u32; 5]) -> Regs {
+        let [a, b, c, d, e] = h;
+        Regs { a, b, c, d, e }
     }
-    if s.b != r.b {
-        return false;
+}
+
+impl From<Regs> for [u32; 5] {
+    ghost from_gives = { λ s h. h ≡ five_of s };
+
+    fn from(s: Regs) -> [u32; 5] {
+        [s.a, s.b, s.c, s.d, s.e]
     }
-    if s.c != r.c {
-        return false;
-    }
-    if s.d != r.d {
-        return false;
-    }
-    s.e == r.e
 }
 
 // One step, where f is what the round function gives.
+#[tactic(auto, unfolding(crate::specs::Step::step_with))]
 fn step_with(s: Regs, f: u32, k: u32, w: u32) -> Regs
     ensures { result ≡ step_with f k s w }
 {
@@ -83,6 +83,7 @@ fn step_with(s: Regs, f: u32, k: u32, w: u32) -> Regs
 }
 
 // One step back, where f is what the round function gives.
+#[tactic(auto, unfolding(crate::specs::Step::undo_with))]
 fn undo_with(s: Regs, f: u32, k: u32, w: u32) -> Regs
     ensures { result ≡ undo_with f k s w }
 {
@@ -96,7 +97,9 @@ fn undo_with(s: Regs, f: u32, k: u32, w: u32) -> Regs
     }
 }
 
-// Step t, whose round goes by t.
+// Step t, whose round goes by t. The choice of the round stands here and in `undo` with a whole step in each branch: chosen
+// once by a function that both call, with its f and k handed on, `compression_w` was slower by a twentieth.
+#[tactic(auto, unfolding(crate::specs::Step::step_at, crate::specs::Step::f_at, crate::specs::Step::k_at))]
 pub fn step(t: usize, s: Regs, w: u32) -> Regs
     ensures { result ≡ step_at t s w }
 {
@@ -112,6 +115,7 @@ pub fn step(t: usize, s: Regs, w: u32) -> Regs
 }
 
 // Step t undone.
+#[tactic(auto, unfolding(crate::specs::Step::undo_at, crate::specs::Step::f_at, crate::specs::Step::k_at))]
 pub fn undo(t: usize, s: Regs, w: u32) -> Regs
     ensures { result ≡ undo_at t s w }
 {
@@ -146,9 +150,7 @@ pub fn undos(from: usize, to: usize, end: Regs, w: &[u32; 80]) -> Regs
     ensures { result ≡ undos_of w.now from (to - from) end }
 {
     let mut s = end;
-    let mut t = to;
-    while from < t {
-        t -= 1;
+    for t in (from..to).rev() {
         s = undo(t, s, w[t]);
     }
     s

@@ -1,11 +1,13 @@
 -- Laws of the fold over blocks, for any block step. Assumes nothing.
 use mathlib.Core.Path.{◌≡◌, refl}
 use mathlib.Core.List.{List, [], ◌∷◌, ◌++◌}
-use Prim.Native.Nat.{ℕ, zero, suc, ◌+◌, ◌-◌, ◌*◌, ◌≤◌, ◌<◌}
+use Prim.Native.Nat.{ℕ, zero, suc, ◌+◌, ◌-◌, ◌*◌, ◌/◌, ◌≤◌, ◌<◌}
 use native.Mathlib.Nat.{not-suc-le-zero, le_of_suc-le-suc}
 use native.Mathlib.Omega.{arith}
 use lib.ListN.{length, get_or, take, drop, length-drop, get_or-append}
 use lib.Seq.{drop-drop, get_or-drop, take-append-le, drop-append-le}
+use Rattle.std.specs.Simd.{first_chunks}
+use Rattle.table.proofs.Chunks.{chunk_is}
 use Rattle.detect.specs.declared.Mode.{Mode}
 use Rattle.stream.specs.Fold.{all_bits, checked_of, chained}
 use Rattle.stream.specs.declared.Chain.{Chain}
@@ -33,17 +35,17 @@ module _ (step : Chain → List ℕ → ℕ → Chain) where
   unfolding chained
   chained-suc n c xs ms = refl
 
-  -- a turn of a counted loop
-  pub chained_more : (c : Chain) (xs ms : List ℕ) (i n : ℕ) → i < n
-      → chained step (n - i) c (drop (64 * i) xs) (drop i ms)
-      ≡ chained step (n - (i + 1)) (step c (take 64 (drop (64 * i) xs)) (get_or ms i all_bits)) (drop (64 * (i + 1)) xs) (drop (i + 1) ms)
-  chained_more c xs ms i n h =
-      let e : n - i ≡ suc (n - (i + 1)) = omega arith in
+  -- a turn of a loop over the blocks, cut out beforehand
+  pub chained_more : (c : Chain) (xs ms : List ℕ) (blocks : List (List ℕ)) (i : ℕ) → blocks ≡ first_chunks 64 (length xs / 64) xs → i < length xs / 64
+      → chained step (length xs / 64 - i) c (drop (64 * i) xs) (drop i ms)
+      ≡ chained step (length xs / 64 - (i + 1)) (step c (get_or blocks i []) (get_or ms i all_bits)) (drop (64 * (i + 1)) xs) (drop (i + 1) ms)
+  chained_more c xs ms blocks i f h =
+      let e : length xs / 64 - i ≡ suc (length xs / 64 - (i + 1)) = omega arith in
       let a : 64 * i + 64 ≡ 64 * (i + 1) = omega arith in
       let z : i + 0 ≡ i = omega arith in
-      rw (e, chained-suc, drop-drop 64 (64 * i) xs, drop-drop 1 i ms, get_or-drop i ms 0 all_bits, a, z)
+      rw (e, chained-suc, drop-drop 64 (64 * i) xs, drop-drop 1 i ms, get_or-drop i ms 0 all_bits, a, z, f, chunk_is 64 (length xs / 64) i xs [] h)
 
-  -- the end of a counted loop
+  -- the end of the loop
   pub chained-done : (c : Chain) (xs ms : List ℕ) (i n : ℕ) → n ≤ i → chained step (n - i) c xs ms ≡ c
   chained-done c xs ms i n h =
       let e : n - i ≡ 0 = omega arith in

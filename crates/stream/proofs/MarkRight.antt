@@ -11,6 +11,7 @@ use Rattle.word.specs.Choice.{pick}
 use Rattle.word.proofs.Tests.{both_true}
 use Rattle.table.specs.Limits.{most_records}
 use Rattle.table.specs.Table.{records_in}
+use Rattle.search.specs.Search.{is_marked, marking_place}
 use Rattle.search.specs.declared.Found.{Found}
 use Rattle.detect.specs.Detect.{selection_of, answer_of}
 use Rattle.detect.specs.declared.Mode.{Mode}
@@ -55,17 +56,17 @@ unfolding mark_fits
 none-fits detect blocks = refl
 
 -- one block more with detection: what was found has a place below the most that a table can have
-linked-right : (c : Chain) (f : Found) → (f.mark ≡ true → f.place < most_records) → MarkRight true c
-    → mark_fits true (c.mark || f.mark) (first_after c f) (c.blocks + 1) ≡ true
-linked-right c f small right = by c.mark f.mark refl refl right
+linked-right : (c : Chain) (f : Found) → (is_marked f ≡ true → marking_place f < most_records) → MarkRight true c
+    → mark_fits true (c.mark || is_marked f) (first_after c f) (c.blocks + 1) ≡ true
+linked-right c f small right = by c.mark (is_marked f) refl refl right
   where
-    by : (m n : Bool) → c.mark ≡ m → f.mark ≡ n → mark_fits true m c.first c.blocks ≡ true
-        → mark_fits true (m || n) (pick m c.first (pick n (record { block = c.blocks; place = f.place }) c.first)) (c.blocks + 1) ≡ true
+    by : (m n : Bool) → c.mark ≡ m → is_marked f ≡ n → mark_fits true m c.first c.blocks ≡ true
+        → mark_fits true (m || n) (pick m c.first (pick n (record { block = c.blocks; place = marking_place f }) c.first)) (c.blocks + 1) ≡ true
     by true n e g r =
         let k = fits-made true c.first c.blocks r in
         made-fits true c.first (c.blocks + 1) (record { detects = refl; counted = omega (arith, k.counted); placed = k.placed })
     by false true e g r =
-        made-fits true (record { block = c.blocks; place = f.place }) (c.blocks + 1) (record { detects = refl; counted = omega arith; placed = small g })
+        made-fits true (record { block = c.blocks; place = marking_place f }) (c.blocks + 1) (record { detects = refl; counted = omega arith; placed = small g })
     by false false e g r = rw (fits-none true c.first c.blocks r) (none-fits true (c.blocks + 1))
 
 -- with detection off there is no mark, and none comes

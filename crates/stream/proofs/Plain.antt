@@ -16,12 +16,12 @@ pub plain-is : (c : Chain) (block : List ℕ) (mask : ℕ)
 unfolding plain_of
 plain-is c block mask = refl
 
-pub chained-plain : (n : ℕ) (c : Chain) (xs ms : List ℕ)
+pub chained_plain : (n : ℕ) (c : Chain) (xs ms : List ℕ)
     → chained plain_of n c xs ms ≡ record { words = hash_blocks n c.words xs; mark = c.mark; first = c.first; blocks = c.blocks + n }
-chained-plain zero c xs ms =
+chained_plain zero c xs ms =
     let e : c.blocks + 0 ≡ c.blocks = omega arith in
     rw (chained-zero plain_of, hash-zero, e)
-chained-plain (suc n) c xs ms =
+chained_plain (suc n) c xs ms =
     let e : c.blocks + suc n ≡ c.blocks + 1 + n = omega arith in
     rw (chained-suc plain_of, plain-is, hash-suc, e)
-    (chained-plain n (record { words = compress_of c.words (take 64 xs); mark = c.mark; first = c.first; blocks = c.blocks + 1 }) (drop 64 xs) (drop 1 ms))
+    (chained_plain n (record { words = compress_of c.words (take 64 xs); mark = c.mark; first = c.first; blocks = c.blocks + 1 }) (drop 64 xs) (drop 1 ms))

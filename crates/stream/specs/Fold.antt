@@ -3,6 +3,7 @@ use Rattle.std.specs.Prelude.{Bool, false, ◌&&◌, ◌||◌, List, ℕ, zero, 
 use Rattle.word.specs.Choice.{pick}
 use Rattle.block.specs.Compress.{compress_of}
 use Rattle.table.specs.Limits.{mask_bits, most_records}
+use Rattle.search.specs.Search.{is_marked, marking_place}
 use Rattle.search.specs.declared.Found.{Found}
 use Rattle.detect.specs.Detect.{selection_of, answer_of}
 use Rattle.detect.specs.declared.Answer.{Answer}
@@ -31,7 +32,7 @@ first_chain = record { words = initial; mark = false; first = nowhere; blocks = 
 
 -- the first mark after one block more: a chain that is marked keeps its own, and a marked block gives its number and its vector's place
 abbrev pub first_after : Chain → Found → FirstMark
-first_after c f = pick c.mark c.first (pick f.mark (record { block = c.blocks; place = f.place }) c.first)
+first_after c f = pick c.mark c.first (pick (is_marked f) (record { block = c.blocks; place = marking_place f }) c.first)
 
 -- a mark and where it was first made fit together: with one, detection is on, the block is one of those counted and the place one that a
 -- table can have; without one, both numbers are 0
@@ -42,7 +43,7 @@ mark_fits detect mark first blocks =
 -- the chain one block on: a marked block leaves a mark, and no other takes it away
 abbrev pub linked : Chain → Answer → Chain
 linked c a =
-    record { words = a.words; mark = c.mark || a.found.mark; first = first_after c a.found; blocks = c.blocks + 1 }
+    record { words = a.words; mark = c.mark || is_marked a.found; first = first_after c a.found; blocks = c.blocks + 1 }
 
 -- the chain after one block with detection, tried with the vectors that its mask and the conditions select
 unfoldable pub checked_of : Mode → List ℕ → List ℕ → Chain → List ℕ → ℕ → Chain

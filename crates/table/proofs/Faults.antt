@@ -8,14 +8,14 @@ use native.Mathlib.Omega.{arith}
 use lib.Dec.{ltb, leb}
 use lib.ListN.{length}
 use borrow.Author.Tests.{ltb-true, leb-true, eqb-true, ltb-false, leb-false, eqb-false}
-use Rattle.refusal.specs.Refusal.{number_of, is_nothing, table_numbers, one_of}
-use Rattle.refusal.specs.declared.Refusal.{Refusal}
-use Rattle.refusal.specs.declared.Refusal.TheVariants.{Nothing, TableLength, MaskNumber, TestStep, DmRule, MaskRepeated}
+use Rattle.std.specs.Prelude.{Err, Ok, is_ok}
+use Rattle.refusal.specs.Refusal.{number_of, table_numbers, one_of, Checked}
+use Rattle.refusal.specs.declared.Refusal.TheVariants.{TableLength, MaskNumber, TestStep, DmRule, MaskRepeated}
 use Rattle.refusal.proofs.First.{of-first, NoneBelow, none-or-first, first-is, none_is, is_none}
 use Rattle.table.specs.Limits.{record_words, most_records}
 use Rattle.table.specs.Table.{records_in, record_fault, repeat_fault, first_bad, first_repeat, whole_records, table_fault}
 use Rattle.table.specs.Good.{BadLength, GoodBelow, Repeats, DifferentBelow}
-use Rattle.word.proofs.Tests.{unless-true, both_true, one-false, of_either}
+use Rattle.word.proofs.Tests.{unless-true, unless-false, both_true, one-false, of_either}
 use Rattle.table.proofs.Record.{of-each, is-0, no-fault}
 use Rattle.table.proofs.Repeats.{repeat_fault_lem, no-repeat, of-repeat, repeat-is, none-repeats}
 
@@ -35,35 +35,51 @@ not-whole n = (
       ⊎_elim (λ e. omega arith) (⊎_elim (λ l. omega arith) (λ m. m h.2)) b),
 )
 
+-- the same of the number of whole records and of the words behind them
+pub whole-parts : (n : ℕ) → 0 < records_in n → records_in n ≤ most_records → n % record_words ≡ 0 → whole_records n ≡ true
+whole-parts n a b e = unless-false (whole_records n) (λ w.
+    ⊎_elim (λ z. omega arith) (⊎_elim (λ (l : record_words * most_records < n). omega arith) (λ m. m e)) ((not-whole n).0 w))
+
+pub whole_has : (n : ℕ) → whole_records n ≡ true → (0 < records_in n) × (records_in n ≤ most_records) × (n % record_words ≡ 0)
+whole_has n w =
+    let h = whole_length n w in
+    (omega arith, omega arith, h.2)
+
 module _ (table : List ℕ) where
-  pub length-fault : whole_records (length table) ≡ false → table_fault table ≡ TableLength
+  pub length-fault : whole_records (length table) ≡ false → table_fault table ≡ Err TableLength
   unfolding table_fault
   length-fault w = rw w
 
+  -- no record, too many, or words behind the last
+  pub parts_fault : (records_in (length table) ≡ 0) ⊎ ((most_records < records_in (length table)) ⊎ (length table % record_words ≡ 0 → ⊥)) → table_fault table ≡ Err TableLength
+  parts_fault b = length-fault (unless-true (whole_records (length table)) (λ w.
+      let h = whole_has (length table) w in
+      ⊎_elim (λ z. omega arith) (⊎_elim (λ l. omega arith) (λ m. m h.2)) b))
+
   -- a bad record comes first, and the repeats only where there is none
-  pub bad-fault : whole_records (length table) ≡ true → is_nothing (first_bad table) ≡ false → table_fault table ≡ first_bad table
+  pub bad-fault : whole_records (length table) ≡ true → is_ok (first_bad table) ≡ false → table_fault table ≡ first_bad table
   unfolding table_fault
   bad-fault w b = rw (w, b)
 
-  pub repeat-given : whole_records (length table) ≡ true → is_nothing (first_bad table) ≡ true → table_fault table ≡ first_repeat table
+  pub repeat-given : whole_records (length table) ≡ true → is_ok (first_bad table) ≡ true → table_fault table ≡ first_repeat table
   unfolding table_fault
   repeat-given w g = rw (w, g)
 
   -- what holds of each fault that a record can have holds of the first bad one's
-  pub of-bad : (P : Refusal → Type 0) → P Nothing → ((k : ℕ) → P (MaskNumber k)) → ((k : ℕ) → P (TestStep k)) → ((k : ℕ) → P (DmRule k)) → P (first_bad table)
+  pub of-bad : (P : Checked → Type 0) → P (Ok tt) → ((k : ℕ) → P (Err (MaskNumber k))) → ((k : ℕ) → P (Err (TestStep k))) → ((k : ℕ) → P (Err (DmRule k))) → P (first_bad table)
   of-bad P o m t d = of-first (record_fault table) P o (λ i. of-each table i P (m i) (t i) (d i) o) (records_in (length table)) 0
 
   -- of the first that repeats likewise
-  pub of-repeated : (P : Refusal → Type 0) → P Nothing → ((k : ℕ) → P (MaskRepeated k)) → P (first_repeat table)
+  pub of-repeated : (P : Checked → Type 0) → P (Ok tt) → ((k : ℕ) → P (Err (MaskRepeated k))) → P (first_repeat table)
   of-repeated P o r = of-first (repeat_fault table) P o (λ i. of-repeat table i P (r i) o) (records_in (length table)) 0
 
   -- and with the length, of the table's fault
-  pub of-fault : (P : Refusal → Type 0) → P Nothing → P TableLength → ((k : ℕ) → P (MaskNumber k)) → ((k : ℕ) → P (TestStep k))
-      → ((k : ℕ) → P (DmRule k)) → ((k : ℕ) → P (MaskRepeated k)) → P (table_fault table)
+  pub of-fault : (P : Checked → Type 0) → P (Ok tt) → P (Err TableLength) → ((k : ℕ) → P (Err (MaskNumber k))) → ((k : ℕ) → P (Err (TestStep k)))
+      → ((k : ℕ) → P (Err (DmRule k))) → ((k : ℕ) → P (Err (MaskRepeated k))) → P (table_fault table)
   unfolding table_fault
   of-fault P o l m t d r =
       of_either P (not (whole_records (length table))) _ _ l
-      (of_either P (is_nothing (first_bad table)) _ _ (of-repeated P o r) (of-bad P o m t d))
+      (of_either P (is_ok (first_bad table)) _ _ (of-repeated P o r) (of-bad P o m t d))
 
   -- so its number is 0 or one that a table can give
   pub fault-numbers : one_of (0 ∷ table_numbers) (number_of (table_fault table)) ≡ true
@@ -72,9 +88,9 @@ module _ (table : List ℕ) where
   not-2 : whole_records (length table) ≡ true → number_of (table_fault table) ≡ 2 → ⊥
   unfolding table_fault
   not-2 w =
-      let P : Refusal → Type 0 = λ r. number_of r ≡ 2 → ⊥ in
+      let P : Checked → Type 0 = λ r. number_of r ≡ 2 → ⊥ in
       rw w
-      (of_either P (is_nothing (first_bad table)) _ _ (of-repeated P (λ z. omega arith) (λ k z. omega arith))
+      (of_either P (is_ok (first_bad table)) _ _ (of-repeated P (λ z. omega arith) (λ k z. omega arith))
       (of-bad P (λ z. omega arith) (λ k z. omega arith) (λ k z. omega arith) (λ k z. omega arith)))
 
   -- the length is what is wrong exactly when it is 0, above the most, or no whole number of records
@@ -92,7 +108,7 @@ module _ (table : List ℕ) where
   good_none k g j l = no-fault table j (g j l)
 
   -- where no bad record is found each is good
-  pub records-good : is_nothing (first_bad table) ≡ true → GoodBelow table (records_in (length table))
+  pub records-good : is_ok (first_bad table) ≡ true → GoodBelow table (records_in (length table))
   records-good e = none-good _ (is_none (record_fault table) (records_in (length table)) e)
 
   -- they repeat no number exactly when their numbers are all different
@@ -104,7 +120,7 @@ module _ (table : List ℕ) where
 
 -- there is a first bad record before place k
 abbrev pub BadBelow : List ℕ → ℕ → Type 0
-BadBelow table k = (i : ℕ) × (i < k) × GoodBelow table i × (is_nothing (record_fault table i) ≡ false)
+BadBelow table k = (i : ℕ) × (i < k) × GoodBelow table i × (is_ok (record_fault table i) ≡ false)
 
 -- there is a first record before place k that repeats
 abbrev pub RepeatBelow : List ℕ → ℕ → Type 0
@@ -122,24 +138,24 @@ module _ (table : List ℕ) where
 
 module _ (table : List ℕ) (whole : whole_records (length table) ≡ true) where
   -- the first bad record in table order decides
-  pub first_bad_lem : (i : ℕ) → i < records_in (length table) → GoodBelow table i → is_nothing (record_fault table i) ≡ false
+  pub first_bad_lem : (i : ℕ) → i < records_in (length table) → GoodBelow table i → is_ok (record_fault table i) ≡ false
       → table_fault table ≡ record_fault table i
   first_bad_lem i h g b =
       let e = first-is (record_fault table) (records_in (length table)) i (h, good_none table i g, b) in
-      bad-fault table whole (ap is_nothing e ∙ b) ∙ e
+      bad-fault table whole (ap is_ok e ∙ b) ∙ e
 
   module _ (good : GoodBelow table (records_in (length table))) where
     pub repeats-left : table_fault table ≡ first_repeat table
     repeats-left =
-        repeat-given table whole (ap is_nothing (none_is (record_fault table) (records_in (length table)) (good_none table _ good)))
+        repeat-given table whole (ap is_ok (none_is (record_fault table) (records_in (length table)) (good_none table _ good)))
 
     -- else the first that repeats
-    pub first_repeat_lem : (i : ℕ) → i < records_in (length table) → DifferentBelow table i → Repeats table i → table_fault table ≡ MaskRepeated i
+    pub first_repeat_lem : (i : ℕ) → i < records_in (length table) → DifferentBelow table i → Repeats table i → table_fault table ≡ Err (MaskRepeated i)
     first_repeat_lem i h d r =
         let e = repeat_fault_lem table i r in
         repeats-left
-        ∙ first-is (repeat_fault table) (records_in (length table)) i (h, different-none table i d, ap is_nothing e)
+        ∙ first-is (repeat_fault table) (records_in (length table)) i (h, different-none table i d, ap is_ok e)
         ∙ e
 
-    pub all-good : DifferentBelow table (records_in (length table)) → table_fault table ≡ Nothing
+    pub all-good : DifferentBelow table (records_in (length table)) → table_fault table ≡ Ok tt
     all-good d = repeats-left ∙ none_is (repeat_fault table) (records_in (length table)) (different-none table _ d)

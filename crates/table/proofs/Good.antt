@@ -7,9 +7,9 @@ use Prim.Native.Nat.{ℕ}
 use native.Mathlib.Nat.{div-add-mod}
 use native.Mathlib.Omega.{arith}
 use lib.ListN.{length}
-use borrow.Author.Tests.{eq-eqb}
-use Rattle.refusal.specs.Refusal.{number_of, is_nothing}
-use Rattle.refusal.specs.declared.Refusal.TheVariants.{Nothing}
+use Rattle.std.specs.Prelude.{Ok, is_ok}
+use Rattle.refusal.specs.Refusal.{number_of}
+use Rattle.refusal.proofs.Chains.{passes}
 use Rattle.table.specs.Limits.{record_words}
 use Rattle.table.specs.Table.{steps_before, testt_of, records_in, whole_records, table_fault}
 use Rattle.table.specs.Good.{Known, GoodBelow, DifferentBelow, GoodTable}
@@ -21,24 +21,24 @@ pub step_of : (x : ℕ) → Known x → steps_before (testt_of x) ≡ x
 step_of x = ⊎_elim (λ e. rw e) (λ e. rw e)
 
 module _ (table : List ℕ) where
-  is_whole : is_nothing (table_fault table) ≡ true → whole_records (length table) ≡ true
-  is_whole h = unless-false _ (λ w. true≢false (sym h ∙ ap is_nothing (length-fault table w)))
+  is_whole : is_ok (table_fault table) ≡ true → whole_records (length table) ≡ true
+  is_whole h = unless-false _ (λ w. true≢false (sym h ∙ ap is_ok (length-fault table w)))
 
   -- were one bad, the first bad one would be the table's fault
-  good-below : is_nothing (table_fault table) ≡ true → GoodBelow table (records_in (length table))
+  good-below : is_ok (table_fault table) ≡ true → GoodBelow table (records_in (length table))
   good-below h =
       ⊎_elim (λ g. g)
-      (λ b. absurd (true≢false (sym h ∙ (ap is_nothing (first_bad_lem table (is_whole h) b.0 b.1 b.2 b.3) ∙ b.3))))
+      (λ b. absurd (true≢false (sym h ∙ (ap is_ok (first_bad_lem table (is_whole h) b.0 b.1 b.2 b.3) ∙ b.3))))
       (good-or-bad table (records_in (length table)))
 
   -- were one to repeat, the first that does would be
-  different-below : is_nothing (table_fault table) ≡ true → DifferentBelow table (records_in (length table))
+  different-below : is_ok (table_fault table) ≡ true → DifferentBelow table (records_in (length table))
   different-below h =
       ⊎_elim (λ d. d)
-      (λ r. absurd (true≢false (sym h ∙ ap is_nothing (first_repeat_lem table (is_whole h) (good-below h) r.0 r.1 r.2 r.3))))
+      (λ r. absurd (true≢false (sym h ∙ ap is_ok (first_repeat_lem table (is_whole h) (good-below h) r.0 r.1 r.2 r.3))))
       (different-or-repeat table (records_in (length table)))
 
-  pub good-table : is_nothing (table_fault table) ≡ true → GoodTable table
+  pub good-table : is_ok (table_fault table) ≡ true → GoodTable table
   good-table h =
       let w = whole_length (length table) (is_whole h) in
       let e = div-add-mod (length table) record_words in
@@ -51,9 +51,9 @@ module _ (table : List ℕ) where
       }
 
   -- a table has no fault exactly when it is good
-  pub accepted : (table_fault table ≡ Nothing) ↔ GoodTable table
+  pub accepted : (table_fault table ≡ (Ok tt)) ↔ GoodTable table
   accepted = (
-    λ e. good-table (ap is_nothing e),
+    λ e. good-table (ap is_ok e),
     λ g. all-good table (unless-false _ (λ w.
         ⊎_elim (λ e. omega arith) (⊎_elim (λ e. omega arith) (λ e. e (omega arith))) ((not-whole (length table)).0 w)))
         g.each g.different,
@@ -61,4 +61,4 @@ module _ (table : List ℕ) where
 
   -- and so has the number 0
   pub table-0 : (number_of (table_fault table) ≡ 0) ↔ GoodTable table
-  table-0 = (λ e. good-table (eq-eqb (number_of (table_fault table)) 0 e), λ g. ap number_of (accepted.1 g))
+  table-0 = (λ e. good-table (passes (table_fault table) e), λ g. ap number_of (accepted.1 g))

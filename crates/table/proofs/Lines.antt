@@ -1,4 +1,4 @@
--- Lines 3, 4 and 5 of 01's table of numbers for a whole table: the first bad record decides, and its place is given. Line 11 of 02, request g: where
+-- The numbers 3, 4 and 5 for a whole table: the first bad record decides, and its place is given. The number 11: where
 -- no record is bad the first that repeats an earlier one's mask number does. Assumes nothing.
 use mathlib.Core.Path.{◌≡◌, sym, ap, ◌∙◌, subst}
 use mathlib.Core.Logic.{⊎_elim, ◌↔◌}
@@ -7,8 +7,9 @@ use mathlib.Core.List.{List}
 use Prim.Native.Nat.{ℕ, ◌<◌}
 use native.Mathlib.Omega.{arith}
 use lib.ListN.{length}
-use borrow.Author.Tests.{ne_eqb}
-use Rattle.refusal.specs.Refusal.{number_of, place_of, is_nothing}
+use Rattle.std.specs.Prelude.{is_ok}
+use Rattle.refusal.specs.Refusal.{number_of, place_of}
+use Rattle.refusal.proofs.Chains.{numbered}
 use Rattle.table.specs.Table.{records_in, record_fault, whole_records, table_fault}
 use Rattle.table.specs.Good.{BadLength, BadMask, BadStep, BadRule, FirstBad, GoodBelow, TwoAlike, FirstRepeat}
 use Rattle.word.proofs.Tests.{unless-false}
@@ -26,7 +27,7 @@ module _ (table : List ℕ) (n : ℕ) (Bad : List ℕ → ℕ → Type 0) (above
   first-given : (i : ℕ) → FirstBad Bad table i → (number_of (table_fault table) ≡ n) × (place_of (table_fault table) ≡ i)
   first-given i f =
       let e = (exactly i).1 f.bad in
-      let b : is_nothing (record_fault table i) ≡ false = ne_eqb (number_of (record_fault table i)) 0 (λ z. omega arith) in
+      let b : is_ok (record_fault table i) ≡ false = (numbered (record_fault table i)).off.1 (λ z. omega arith) in
       let d = first_bad_lem table (whole-if _ f.whole) i f.inside f.before b in
       (ap number_of d ∙ e, ap place_of d ∙ place_is table i b)
 

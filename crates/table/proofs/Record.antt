@@ -3,16 +3,24 @@ use mathlib.Core.Path.{◌≡◌, refl, sym, ap, ◌∙◌, subst}
 use mathlib.Core.Logic.{⊎_elim, ⊎_map, ◌↔◌}
 use mathlib.Core.Bool.{Bool, true, false, not, ◌||◌, or-true, true≢false}
 use mathlib.Core.List.{List}
-use Prim.Native.Nat.{ℕ, ◌+◌, ◌-◌, ◌*◌}
+use Prim.Native.Nat.{ℕ, ◌+◌, ◌*◌, ◌<◌}
 use native.Mathlib.Omega.{arith}
 use lib.Dec.{ltb, eqb}
-use lib.ListN.{take, drop}
+use lib.ListN.{get_or, take, drop}
+use Rattle.std.proofs.lemmas.List.{get_or-take, get_or-drop, drop-drop, take-take}
+use Rattle.std.proofs.lemmas.Slice.{between_is}
+use borrow.Author.Rules.{rules}
 use borrow.Author.Tests.{lt-ltb, le-ltb, eq-eqb, ltb-true, ltb-false, eqb-true}
-use Rattle.refusal.specs.Refusal.{number_of, place_of, is_nothing}
-use Rattle.refusal.specs.declared.Refusal.{Refusal}
-use Rattle.refusal.specs.declared.Refusal.TheVariants.{Nothing, MaskNumber, TestStep, DmRule}
+use Rattle.std.specs.Prelude.{Result, Err, Ok, is_ok}
+use Rattle.std.specs.Result.{is_err}
+use Rattle.word.specs.Choice.{pick}
+use Rattle.refusal.specs.Refusal.{number_of, place_of, Checked}
+use Rattle.refusal.specs.declared.Refusal.TheVariants.{MaskNumber, TestStep, DmRule}
 use Rattle.table.specs.Limits.{dm_words, record_words, mask_bits}
-use Rattle.table.specs.Table.{mask_number_at, test_word_at, dm_at, obeys, record_fault}
+use Rattle.table.specs.declared.Testt.{Testt}
+use Rattle.table.specs.declared.Testt.TheVariants.{T58, T65}
+use Rattle.table.specs.declared.UnknownStep.{UnknownStep}
+use Rattle.table.specs.Table.{step_named, record_at, mask_number_at, test_word_at, dm_at, obeys, fault_of, record_fault}
 use Rattle.table.specs.Good.{Known, BadMask, BadStep, BadRule, GoodRecord}
 use Rattle.word.proofs.Tests.{unless-true, one-true, of_either}
 use Rattle.table.proofs.Rule.{rule-true, rule-false}
@@ -31,43 +39,70 @@ pub known-false : (x : ℕ) → (known x ≡ false) ↔ (Known x → ⊥)
 known-false x =
     (λ h k. true≢false (sym ((known-true x).1 k) ∙ h), λ h. unless-true (known x) (λ e. h ((known-true x).0 e)))
 
+-- a word names a test step exactly when it is one of the two
+pub named_is : (x : ℕ) → is_err (step_named x) ≡ not (known x)
+named_is x = by (eqb x 58) (eqb x 65)
+  where
+    by : (a b : Bool) → is_err (pick {A = Result Testt UnknownStep} a (Ok T58) (pick b (Ok T65) (Err (record { 0 = x })))) ≡ not (a || b)
+    by true b = refl
+    by false true = refl
+    by false false = refl
+
 module _ (table : List ℕ) (i : ℕ) where
-  pub mask-fault : BadMask table i → record_fault table i ≡ MaskNumber i
+  pub mask-fault : BadMask table i → record_fault table i ≡ Err (MaskNumber i)
   unfolding record_fault
   mask-fault m = rw (le-ltb (mask_number_at table i) mask_bits m)
 
-  pub step-fault : BadStep table i → record_fault table i ≡ TestStep i
+  pub step-fault : BadStep table i → record_fault table i ≡ Err (TestStep i)
   unfolding record_fault
   step-fault (m, s) = rw (lt-ltb (mask_number_at table i) mask_bits m, (known-false (test_word_at table i)).1 s)
 
-  pub rule-fault : BadRule table i → record_fault table i ≡ DmRule i
+  pub rule-fault : BadRule table i → record_fault table i ≡ Err (DmRule i)
   unfolding record_fault
   rule-fault (m, s, r) =
       rw (lt-ltb (mask_number_at table i) mask_bits m, (known-true (test_word_at table i)).1 s, (rule-false (dm_at table i)).1 r)
 
-  pub no-fault : GoodRecord table i → record_fault table i ≡ Nothing
+  pub no-fault : GoodRecord table i → record_fault table i ≡ Ok tt
   unfolding record_fault
   no-fault g =
       rw (lt-ltb (mask_number_at table i) mask_bits g.mask, (known-true (test_word_at table i)).1 g.known, (rule-true (dm_at table i)).1 g.rule)
 
   -- what holds of each fault that a record can have holds of its fault
-  pub of-each : (P : Refusal → Type 0) → P (MaskNumber i) → P (TestStep i) → P (DmRule i) → P Nothing → P (record_fault table i)
+  pub of-each : (P : Checked → Type 0) → P (Err (MaskNumber i)) → P (Err (TestStep i)) → P (Err (DmRule i)) → P (Ok tt) → P (record_fault table i)
   unfolding record_fault
   of-each P p q r s =
-      of_either P (not (ltb (mask_number_at table i) mask_bits)) (MaskNumber i) _ p
-      (of_either P (not (known (test_word_at table i))) (TestStep i) _ q
-      (of_either P (not (obeys (dm_at table i))) (DmRule i) Nothing r s))
+      of_either P (not (ltb (mask_number_at table i) mask_bits)) (Err (MaskNumber i)) _ p
+      (of_either P (not (known (test_word_at table i))) (Err (TestStep i)) _ q
+      (of_either P (not (obeys (dm_at table i))) (Err (DmRule i)) (Ok tt) r s))
 
   -- a bad record's fault names its place
-  pub place_is : is_nothing (record_fault table i) ≡ false → place_of (record_fault table i) ≡ i
+  pub place_is : is_ok (record_fault table i) ≡ false → place_of (record_fault table i) ≡ i
   place_is =
-      of-each (λ r. is_nothing r ≡ false → place_of r ≡ i) (λ b. refl) (λ b. refl) (λ b. refl) (λ b. absurd (true≢false b))
+      of-each (λ r. is_ok r ≡ false → place_of r ≡ i) (λ b. refl) (λ b. refl) (λ b. refl) (λ b. absurd (true≢false b))
 
-  -- what the code takes of the table are the record's difference words
-  pub dm-part : take (record_words * i + record_words - (record_words * i + 2)) (drop (record_words * i + 2) table) ≡ dm_at table i
-  dm-part =
-      let e : record_words * i + record_words - (record_words * i + 2) ≡ dm_words = omega arith in
-      rw e
+  -- the words of the record that the code takes of the table
+  pub word_taken : (j : ℕ) → j < record_words → get_or (record_at table i) j 0 ≡ get_or table (record_words * i + j) 0
+  word_taken j h = get_or-take record_words (drop (record_words * i) table) j 0 h ∙ get_or-drop (record_words * i) table j 0
+
+  pub number_taken : get_or (record_at table i) 0 0 ≡ mask_number_at table i
+  number_taken =
+      let e : record_words * i + 0 ≡ record_words * i = omega arith in
+      word_taken 0 (omega arith) ∙ ap (λ (j : ℕ). get_or table j 0) e
+
+  -- the difference words
+  pub dm_taken : take dm_words (drop 2 (record_at table i)) ≡ dm_at table i
+  dm_taken =
+      let rest = drop (record_words * i) table in
+      let a : drop 2 (take record_words rest) ≡ take dm_words (drop 2 rest) = sym (between_is rest 2 record_words) in
+      let b : take dm_words (take dm_words (drop 2 rest)) ≡ take dm_words (drop 2 rest) = search (rules, take-take) in
+      ap (take dm_words) a ∙ b ∙ ap (take dm_words) (drop-drop 2 (record_words * i) table)
+
+  -- and so its fault are those of record i
+  pub fault_taken : fault_of (get_or (record_at table i) 0 0) (get_or (record_at table i) 1 0) (take dm_words (drop 2 (record_at table i))) i ≡ record_fault table i
+  unfolding record_fault
+  fault_taken =
+      let w = word_taken 1 (omega arith) in
+      rw (number_taken, w, dm_taken)
 
 -- why the fault of record i has its number
 data Why (table : List ℕ) (i : ℕ) : ℕ → Type 0 where

@@ -10,11 +10,11 @@ use native.Mathlib.Omega.{arith}
 use lib.Bits.{bit_or}
 use lib.Dec.{eqb}
 use borrow.Author.Tests.{eqb-true, eq-eqb}
+use Rattle.std.specs.Prelude.{Err, Ok, is_ok}
 use Rattle.word.specs.Choice.{pick}
 use Rattle.word.proofs.Tests.{one-true, unless-true, of_either}
-use Rattle.refusal.specs.Refusal.{is_nothing}
-use Rattle.refusal.specs.declared.Refusal.{Refusal}
-use Rattle.refusal.specs.declared.Refusal.TheVariants.{Nothing, MaskRepeated}
+use Rattle.refusal.specs.Refusal.{Checked}
+use Rattle.refusal.specs.declared.Refusal.TheVariants.{MaskRepeated}
 use Rattle.table.specs.Bits.{has_bit}
 use Rattle.table.specs.Table.{mask_number_at, among, repeat_fault}
 use Rattle.table.specs.Good.{Repeats}
@@ -57,28 +57,28 @@ module _ (number : ℕ → ℕ) where
 
 module _ (table : List ℕ) (i : ℕ) where
   -- a record that repeats is a fault with its place, and one that does not is none
-  pub repeat_fault_lem : Repeats table i → repeat_fault table i ≡ MaskRepeated i
+  pub repeat_fault_lem : Repeats table i → repeat_fault table i ≡ Err (MaskRepeated i)
   unfolding repeat_fault
   repeat_fault_lem r = rw ((among-true (mask_number_at table) (mask_number_at table i) i).1 r)
 
-  pub no-repeat : (Repeats table i → ⊥) → repeat_fault table i ≡ Nothing
+  pub no-repeat : (Repeats table i → ⊥) → repeat_fault table i ≡ Ok tt
   unfolding repeat_fault
   no-repeat n =
       rw (unless-true (among (mask_number_at table) (mask_number_at table i) i) (λ e. n ((among-true (mask_number_at table) (mask_number_at table i) i).0 e)))
 
   -- what holds of both faults that it can have holds of its fault
-  pub of-repeat : (P : Refusal → Type 0) → P (MaskRepeated i) → P Nothing → P (repeat_fault table i)
+  pub of-repeat : (P : Checked → Type 0) → P (Err (MaskRepeated i)) → P (Ok tt) → P (repeat_fault table i)
   unfolding repeat_fault
-  of-repeat P p q = of_either P (among (mask_number_at table) (mask_number_at table i) i) (MaskRepeated i) Nothing p q
+  of-repeat P p q = of_either P (among (mask_number_at table) (mask_number_at table i) i) (Err (MaskRepeated i)) (Ok tt) p q
 
   -- where there is a fault the record repeats
-  pub repeat-is : is_nothing (repeat_fault table i) ≡ false → Repeats table i
+  pub repeat-is : is_ok (repeat_fault table i) ≡ false → Repeats table i
   unfolding repeat_fault
   repeat-is e = by (among (mask_number_at table) (mask_number_at table i) i) refl e
     where
-      by : (b : Bool) → among (mask_number_at table) (mask_number_at table i) i ≡ b → is_nothing (pick b (MaskRepeated i) Nothing) ≡ false → Repeats table i
+      by : (b : Bool) → among (mask_number_at table) (mask_number_at table i) i ≡ b → is_ok (pick {A = Checked} b (Err (MaskRepeated i)) (Ok tt)) ≡ false → Repeats table i
       by true h e = (among-true (mask_number_at table) (mask_number_at table i) i).0 h
       by false h e = absurd (true≢false e)
 
-  pub none-repeats : repeat_fault table i ≡ Nothing → Repeats table i → ⊥
-  none-repeats e r = true≢false (sym (ap is_nothing e) ∙ ap is_nothing (repeat_fault_lem r))
+  pub none-repeats : repeat_fault table i ≡ (Ok tt) → Repeats table i → ⊥
+  none-repeats e r = true≢false (sym (ap is_ok e) ∙ ap is_ok (repeat_fault_lem r))

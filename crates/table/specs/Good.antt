@@ -1,4 +1,5 @@
--- What can be wrong with a table and what is good, as facts: lines 2 to 5 of 01's table of numbers, and 11 of 02, request g.
+-- What can be wrong with a table and what is good, as facts: the numbers 2 to 5 and 11 that a caller can get back
+-- (docs/BEHAVIOUR.md).
 use Rattle.std.specs.Prelude.{◌≡◌, ◌⊎◌, List, ℕ, ◌*◌, ◌%◌, ◌≤◌, ◌<◌, length, get_or}
 use Rattle.word.specs.Rule.{rule_at}
 use Rattle.table.specs.Limits.{dm_words, record_words, most_records, mask_bits}

@@ -1,2 +1,3 @@
 pub mod Short
 pub mod Lengths
+pub mod FromFn

@@ -1,9 +1,9 @@
 -- A table in a file: big-endian words, 328 bytes a record. 01, "Vector records".
-use Rattle.std.specs.Prelude.{◌≡◌, ◌⊎◌, Bool, ◌&&◌, List, ℕ, ◌*◌, ◌/◌, ◌%◌, ◌<◌, leb, eqb, length}
+use Rattle.std.specs.Prelude.{◌≡◌, ◌⊎◌, Bool, ◌&&◌, List, ℕ, ◌*◌, ◌/◌, ◌%◌, ◌<◌, leb, eqb, length, Err}
 use Rattle.word.specs.Choice.{pick}
 use Rattle.word.specs.Lists.{list_of}
+use Rattle.refusal.specs.Refusal.{Checked}
 use Rattle.octets.specs.Octets.{be32_at}
-use Rattle.refusal.specs.declared.Refusal.{Refusal}
 use Rattle.refusal.specs.declared.Refusal.TheVariants.{TableLength}
 use Rattle.table.specs.Limits.{record_words, most_records}
 use Rattle.table.specs.Table.{table_fault}
@@ -37,5 +37,5 @@ abbrev pub table_of : List ℕ → List ℕ
 table_of bytes = file_words bytes (length bytes / 4)
 
 -- what is wrong with a table file
-unfoldable pub file_fault : List ℕ → Refusal
-file_fault bytes = pick (whole_words (length bytes)) (table_fault (table_of bytes)) TableLength
+unfoldable pub file_fault : List ℕ → Checked
+file_fault bytes = pick (whole_words (length bytes)) (table_fault (table_of bytes)) (Err TableLength)

@@ -5,8 +5,8 @@ ghost use Rattle.std.specs.Prelude.{◌≡◌, ◌<◌, get_or};
 ghost use Rattle.octets.specs.Octets.{be32_at};
 ghost use Rattle.table_file.specs.File.{most_words, file_words, whole_words, file_fault};
 
-use octets::be_word;
 use refusal::Refusal;
+use std::array;
 use table::{MOST_RECORDS, RECORD_WORDS, table_fault};
 
 // Words in the longest table.
@@ -16,10 +16,7 @@ pub const MOST_WORDS: usize = RECORD_WORDS * MOST_RECORDS;
 fn byte_at(bytes: &[u8], i: usize) -> u8
     ensures { result ≡ get_or bytes.now i 0 }
 {
-    if i < bytes.len() {
-        return bytes[i];
-    }
-    0
+    bytes.get(i).copied().unwrap_or(0)
 }
 
 // Word i of the file.
@@ -28,43 +25,35 @@ fn file_word(bytes: &[u8], i: usize) -> u32
     ensures { result ≡ be32_at bytes.now i }
 {
     let at = 4 * i;
-    be_word(
+    u32::from_be_bytes([
         byte_at(bytes, at),
         byte_at(bytes, at + 1),
         byte_at(bytes, at + 2),
         byte_at(bytes, at + 3),
-    )
+    ])
 }
 
 // The words of a file, with zeros past its end.
 pub fn file_words(bytes: &[u8]) -> [u32; MOST_WORDS]
     ensures { result ≡ file_words bytes.now most_words }
 {
-    let mut words = [0u32; MOST_WORDS];
-    for i in 0..MOST_WORDS {
-        words[i] = file_word(bytes, i);
-    }
-    words
+    array::from_fn(|i| file_word(bytes, i))
 }
 
 // Whether n bytes can be the words of a table that is not too long.
 fn whole_words(n: usize) -> bool
     ensures { result ≡ whole_words n }
 {
-    if n % 4 != 0 {
-        return false;
-    }
-    n <= 4 * MOST_WORDS
+    n % 4 == 0 && n <= 4 * MOST_WORDS
 }
 
 // What is wrong with a table file.
-pub fn file_fault(bytes: &[u8]) -> Refusal
+pub fn file_fault(bytes: &[u8]) -> Result<(), Refusal>
     ensures { result ≡ file_fault bytes.now }
 {
     if !whole_words(bytes.len()) {
-        return Refusal::TableLength;
+        return Err(Refusal::TableLength);
     }
     let words = file_words(bytes);
-    let n = bytes.len() / 4;
-    table_fault(&words[..n])
+    table_fault(&words[..bytes.len() / 4])
 }

@@ -7,7 +7,7 @@ ghost use Rattle.verdict.specs.Verdict.{verdict_of};
 // Bytes in a digest, which stands beside a verdict.
 pub const DIGEST_SIZE: usize = 20;
 
-#[derive(Clone, Copy)]
+#[derive(Clone, Copy, Debug, PartialEq, Eq)]
 pub enum Verdict {
     // No block was marked.
     Ok,
@@ -21,11 +21,9 @@ pub enum Verdict {
 pub fn verdict_of(mark: bool, mitigate: bool) -> Verdict
     ensures { result ≡ verdict_of mark mitigate }
 {
-    if mark {
-        if mitigate {
-            return Verdict::Mitigated;
-        }
-        return Verdict::Collision;
+    match (mark, mitigate) {
+        (false, _) => Verdict::Ok,
+        (true, true) => Verdict::Mitigated,
+        (true, false) => Verdict::Collision,
     }
-    Verdict::Ok
 }

@@ -1,16 +1,26 @@
 -- `arguments::kind_of` meets its contract. Assumes nothing.
 use mathlib.Core.Path.{sym, ◌∙◌}
-use Rattle.arguments.specs.Arguments.{kind_of}
+use Rattle.octets.proofs.Same.{pointwise_same}
+use Rattle.arguments.specs.Arguments.{raw_sign, kind_of}
+use Rattle.arguments.proofs.Signs.{names}
 use Rattle.arguments.proofs.kind_of.Goals as goal
 
-pub returns-then-names_table : goal.returns-then-names_table
+pub returns-then-starts_with : goal.returns-then-starts_with
 unfolding kind_of
-returns-then-names_table c = rw (sym c.names_table.ensures ∙ c.if-names_table.true)
+returns-then-starts_with c = rw (sym (names c.args.arg.now) ∙ sym c.starts_with.ensures.value ∙ c.if-starts_with.true)
 
-pub returns-then-same_bytes : goal.returns-then-same_bytes
+pub returns-then-eq : goal.returns-then-eq
 unfolding kind_of
-returns-then-same_bytes c = rw (sym c.names_table.ensures ∙ c.if-names_table.false, sym c.same_bytes.ensures ∙ c.if-same_bytes.true)
+returns-then-eq c =
+    rw (
+      sym (names c.args.arg.now) ∙ sym c.starts_with.ensures.value ∙ c.if-starts_with.false,
+      sym (pointwise_same c.args.arg.now raw_sign) ∙ sym c.eq.ensures ∙ c.if-eq.true,
+    )
 
 pub returns : goal.returns
 unfolding kind_of
-returns c = rw (sym c.names_table.ensures ∙ c.if-names_table.false, sym c.same_bytes.ensures ∙ c.if-same_bytes.false)
+returns c =
+    rw (
+      sym (names c.args.arg.now) ∙ sym c.starts_with.ensures.value ∙ c.if-starts_with.false,
+      sym (pointwise_same c.args.arg.now raw_sign) ∙ sym c.eq.ensures ∙ c.if-eq.false,
+    )

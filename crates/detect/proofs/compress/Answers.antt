@@ -3,13 +3,8 @@ use Rattle.block.specs.Compress.{states_of}
 use Rattle.detect.specs.Detect.{selection_of, answer_of}
 use Rattle.detect.proofs.compress.Goals as goal
 
-pub found_among-found-requires : goal.found_among-found-requires
-found_among-found-requires c =
-    let e = c.compression_states-s.ensures in
-    rw e.0 e.1
-
 pub returns : goal.returns
 unfolding answer_of selection_of states_of
 returns c =
-    let e = c.compression_states-s.ensures in
-    rw (c.mitigated.ensures, c.found_among-found.ensures, c.surviving.ensures, e.0, e.1)
+    let e = c.compression_states-states.ensures in
+    rw (c.mitigated.ensures, c.is_some.ensures, c.found_among-found.ensures, c.surviving.ensures, e.0, e.1)

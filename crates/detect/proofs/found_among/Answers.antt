@@ -5,6 +5,3 @@ use Rattle.detect.proofs.found_among.Goals as goal
 
 pub returns-then-selected-eq0 : goal.returns-then-selected-eq0
 returns-then-selected-eq0 c = rw c.if-selected-eq0.true (sym (none-selected _ _ _ _))
-
-pub returns : goal.returns
-returns c = c.search.ensures

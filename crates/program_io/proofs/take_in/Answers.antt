@@ -1,43 +1,41 @@
-use mathlib.Core.Path.{◌≡◌, refl}
-use borrow.Author.Rules.{rules, sfits_of}
-use mir.Syntax.{w64}
-use mir.ValLaws.{to_z-of_z}
-use Rattle.reads.specs.Reads.{read_of}
+use mathlib.Core.Path.{sym, ◌∙◌}
+use borrow.Author.Rules.{rules}
+use Rattle.reads.specs.Reads.{answer_of, read_of}
 use Rattle.reads.proofs.Answered.{answer-moved}
-use Rattle.program.specs.Intakes.{intake_with}
-use Rattle.program.proofs.Intakes.{none-taken, taken_more, less-left, still-long}
+use Rattle.program.proofs.Intakes.{none-taken, took-end, took-failed, took-more}
+use Rattle.line.proofs.Passed.{passed_on}
 use Rattle.program_io.proofs.take_in.Goals as goal
 
-pub loop-intake-init : goal.loop-intake-init
-loop-intake-init g c =
-    let a = c.args in (
-      refl,
-      λ m. rw c.no_intake-intake.ensures (search rules),
-      rw c.no_intake-intake.ensures (none-taken a.start a.table.now),
-    )
+pub loop-input-init : goal.loop-input-init
+loop-input-init g c = record { long = search rules; taken = none-taken c.args.start c.args.table.now }
 
-pub loop-intake-smaller : goal.loop-intake-smaller
-loop-intake-smaller g c =
-    let x = c.loop-intake.intake in
-    let table = c.args.table.now in
-    let buf = c.read-answered.new.buf in
-    let read = read_of c.answer-got.result buf in
-    let told : c.intake_with-intake.result ≡ intake_with x.hasher table read =
-    rw (to_z-of_z w64 c.answer-got.result (sfits_of c.answer-got.type_inv)) at c.intake_with-intake.ensures in
-    let more = c.loop-intake-test.true in
-    rw told (less-left x table read more (c.loop-intake.invariant.1 more))
+pub returns-in-None : goal.returns-in-None
+returns-in-None g c =
+    let buf = c.read-got.new.buf in
+    let may = answer-moved c.read-got.result buf c.read-got.ensures.bound in
+    let none = rw c.in-None.is at c.in_ok-next.was in
+    took-end c.loop-input.invariant.taken (read_of (answer_of c.read-got.result) buf) may (sym c.take.ensures ∙ none)
 
-pub loop-intake-preserved : goal.loop-intake-preserved
-loop-intake-preserved g c =
-    let x = c.loop-intake.intake in
-    let table = c.args.table.now in
-    let buf = c.read-answered.new.buf in
-    let read = read_of c.answer-got.result buf in
-    let told : c.intake_with-intake.result ≡ intake_with x.hasher table read =
-    rw (to_z-of_z w64 c.answer-got.result (sfits_of c.answer-got.type_inv)) at c.intake_with-intake.ensures in
-    let more = c.loop-intake-test.true in
-    let l = c.loop-intake.invariant in (
-      c.answer-got.array_long,
-      λ m. rw told (still-long x.hasher table read (l.1 more) (rw told at m)),
-      rw told (taken_more l.2 more read (rw c.answer-got.ensures (answer-moved c.read-answered.result buf c.read-answered.ensures.bound))),
-    )
+pub returns-in_err-next : goal.returns-in_err-next
+returns-in_err-next g c =
+    let buf = c.read-got.new.buf in
+    let may = answer-moved c.read-got.result buf c.read-got.ensures.bound in
+    rw (passed_on c.from_residual.result _ c.from_residual.ensures.1)
+    (took-failed c.loop-input.invariant.taken (read_of (answer_of c.read-got.result) buf) may (sym c.take.ensures ∙ c.in_err-next.was))
+
+pub loop-input-smaller : goal.loop-input-smaller
+loop-input-smaller g c =
+    let buf = c.read-got.new.buf in
+    let may = answer-moved c.read-got.result buf c.read-got.ensures.bound in
+    let some = rw c.in-Some.is at c.in_ok-next.was in
+    let l = c.loop-input.invariant in
+    (took-more l.taken (read_of (answer_of c.read-got.result) buf) may l.long (sym c.take.ensures ∙ some)).1
+
+pub loop-input-preserved : goal.loop-input-preserved
+loop-input-preserved g c =
+    let buf = c.read-got.new.buf in
+    let may = answer-moved c.read-got.result buf c.read-got.ensures.bound in
+    let some = rw c.in-Some.is at c.in_ok-next.was in
+    let l = c.loop-input.invariant in
+    let more = took-more l.taken (read_of (answer_of c.read-got.result) buf) may l.long (sym c.take.ensures ∙ some) in
+    record { long = more.2; taken = more.0 }

@@ -10,6 +10,3 @@ use Rattle.table.proofs.first_repeat.Given as goal
 
 abbrev pub invariant-loop-i : goal.invariant-loop-i
 invariant-loop-i l = (first_from (repeat_fault l.table) l.i (records_in (length l.table) - l.i) ≡ first_repeat l.table) × (l.seen ≡ seen_of (mask_number_at l.table) l.i)
-
-abbrev pub decreases-loop-i : goal.decreases-loop-i
-decreases-loop-i l = records_in (length l.table) - l.i

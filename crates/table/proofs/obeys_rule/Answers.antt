@@ -1,13 +1,10 @@
-use mathlib.Core.Path.{refl, sym, ap, ◌∙◌}
+use mathlib.Core.Path.{sym, ap, ◌∙◌}
 use mathlib.Core.Bool.{◌&&◌, and-true}
 use borrow.Author.Rules.{rules}
 use lib.Dec.{eqb}
 use Rattle.table.specs.Limits.{dm_words}
 use Rattle.table.proofs.Rule.{obeys-turn, obeys-done}
 use Rattle.table.proofs.obeys_rule.Goals as goal
-
-pub loop-t-init : goal.loop-t-init
-loop-t-init c = (search rules, refl)
 
 pub loop-t-preserved : goal.loop-t-preserved
 loop-t-preserved c =

@@ -10,6 +10,3 @@ use Rattle.table.proofs.obeys_rule.Given as goal
 
 abbrev pub invariant-loop-t : goal.invariant-loop-t
 invariant-loop-t l = (16 ≤ l.t) × ((eqb l.off 0 && obeys_from l.dm l.t (dm_words - l.t)) ≡ obeys l.dm)
-
-abbrev pub decreases-loop-t : goal.decreases-loop-t
-decreases-loop-t l = dm_words - l.t

@@ -1,32 +1,28 @@
 -- `table::record_fault` meets its contract. Assumes nothing.
-use mathlib.Core.Path.{sym, ap, ◌∙◌}
-use borrow.Author.Rules.{rules}
-use Rattle.table.specs.Table.{test_word_at, obeys}
-use Rattle.table.proofs.Rule.{rule-true, rule-false}
-use Rattle.table.proofs.Record.{known-true, known-false, mask-fault, step-fault, rule-fault, no-fault, dm-part}
+use mathlib.Core.Path.{◌≡◌, sym, ap, ◌∙◌}
+use mathlib.Core.Bool.{true, false}
+use native.Mathlib.Omega.{arith}
+use borrow.Author.Tests.{lt-ltb, not-false}
+use lib.Dec.{ltb}
+use lib.ListN.{get_or, take, drop}
+use Rattle.std.specs.Result.{is_err}
+use Rattle.table.specs.Limits.{mask_bits, dm_words}
+use Rattle.table.specs.Table.{obeys}
+use Rattle.table.proofs.Record.{known, named_is}
 use Rattle.table.proofs.record_fault.Goals as goal
-
-pub returns-then-table-at-ge-MASK_BITS : goal.returns-then-table-at-ge-MASK_BITS
-returns-then-table-at-ge-MASK_BITS c =
-    let a = c.args in
-    sym (mask-fault a.table.now a.i (search rules))
-
-pub returns-then-not-known_step : goal.returns-then-not-known_step
-returns-then-not-known_step c =
-    let a = c.args in
-    let s = (known-false _).0 (sym c.known_step.ensures ∙ c.if-not-known_step.true) in
-    sym (step-fault a.table.now a.i (search rules, s))
 
 pub returns-then-not-obeys_rule : goal.returns-then-not-obeys_rule
 returns-then-not-obeys_rule c =
-    let a = c.args in
-    let known = (known-true (test_word_at a.table.now a.i)).0 (sym c.known_step.ensures ∙ c.if-not-known_step.false) in
-    let seen = sym (ap obeys (dm-part a.table.now a.i)) ∙ sym c.obeys_rule.ensures in
-    sym (rule-fault a.table.now a.i (search rules, known, (rule-false _).0 (seen ∙ c.if-not-obeys_rule.true)))
+    let r = c.args.record.now in
+    let m : ltb (get_or r 0 0) mask_bits ≡ true = lt-ltb _ _ (omega arith) in
+    let k : known (get_or r 1 0) ≡ true = not-false (known (get_or r 1 0)) (sym (named_is (get_or r 1 0)) ∙ sym (ap is_err c.try_from.ensures) ∙ sym c.is_err.ensures.value ∙ c.if-is_err.false) in
+    let o : obeys (take dm_words (drop 2 r)) ≡ false = sym c.obeys_rule.ensures ∙ c.if-not-obeys_rule.true in
+    rw (m, k, o)
 
 pub returns : goal.returns
 returns c =
-    let a = c.args in
-    let known = (known-true (test_word_at a.table.now a.i)).0 (sym c.known_step.ensures ∙ c.if-not-known_step.false) in
-    let seen = sym (ap obeys (dm-part a.table.now a.i)) ∙ sym c.obeys_rule.ensures in
-    sym (no-fault a.table.now a.i (record { mask = search rules; known = known; rule = (rule-true _).0 (seen ∙ c.if-not-obeys_rule.false) }))
+    let r = c.args.record.now in
+    let m : ltb (get_or r 0 0) mask_bits ≡ true = lt-ltb _ _ (omega arith) in
+    let k : known (get_or r 1 0) ≡ true = not-false (known (get_or r 1 0)) (sym (named_is (get_or r 1 0)) ∙ sym (ap is_err c.try_from.ensures) ∙ sym c.is_err.ensures.value ∙ c.if-is_err.false) in
+    let o : obeys (take dm_words (drop 2 r)) ≡ true = sym c.obeys_rule.ensures ∙ c.if-not-obeys_rule.false in
+    rw (m, k, o)

@@ -1,17 +1,9 @@
-use Prim.Native.Nat.{ℕ}
-use lib.ListN.{length-replicate}
+-- `table_file::file_words` meets its contract. Assumes nothing.
 use borrow.Author.Rules.{rules}
-use Rattle.word.proofs.Fill.{fill_none, fill_more, fill-all}
+use Rattle.octets.specs.Octets.{be32_at}
 use Rattle.table_file.specs.File.{most_words}
+use Rattle.table_file.proofs.FromFn.{from-fn-is}
 use Rattle.table_file.proofs.file_words.Goals as goal
 
-pub loop-i-init : goal.loop-i-init
-loop-i-init c = fill_none _ most_words _ (length-replicate {A = ℕ} most_words 0)
-
-pub loop-i-preserved : goal.loop-i-preserved
-loop-i-preserved c =
-    let h = c.loop-i in
-    fill_more _ most_words h.words h.i _ h.invariant (search rules) c.file_word.ensures
-
 pub returns : goal.returns
-returns c = fill-all _ most_words c.loop-i.words c.loop-i.i c.loop-i.invariant (search rules)
+returns c = from-fn-is _ _ (be32_at c.args.bytes.now) most_words (λ i y q h. search rules) (λ i y q h. search rules) c.from_fn.result c.from_fn.ensures.items

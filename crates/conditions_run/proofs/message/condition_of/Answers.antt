@@ -1,5 +1,8 @@
 -- `conditions_run::message::condition_of` meets its contract. Assumes nothing.
+use Rattle.std.proofs.Common.{◌+◌, rules}
+use Rattle.table_file.proofs.FromFn.{from-fn-is}
+use Rattle.cases.specs.Numbers.{word_field}
 use Rattle.conditions_run.proofs.message.condition_of.Goals as goal
 
 pub returns : goal.returns
-returns c = rw (c.word_field-6.ensures, c.word_field-5.ensures, c.word_field-4.ensures, c.word_field-3.ensures, c.word_field-2.ensures, c.word_field.ensures)
+returns c = from-fn-is _ _ (λ k. word_field c.args.line.now (3 + k)) 6 (λ i y q h. search rules) (λ i y q h. search rules) c.from_fn.result c.from_fn.ensures.items

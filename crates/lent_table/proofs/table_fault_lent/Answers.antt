@@ -1,5 +1,0 @@
--- `lent_table::table_fault_lent` meets its contract. Assumes nothing.
-use Rattle.lent_table.proofs.table_fault_lent.Goals as goal
-
-pub returns : goal.returns
-returns c = rw (c.say_fault.ensures, c.table_fault.ensures)

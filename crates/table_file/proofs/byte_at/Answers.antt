@@ -1,7 +1,0 @@
--- `table_file::byte_at` meets its contract. Assumes nothing.
-use mathlib.Core.Path.{sym}
-use lib.ListN.{get_or-eq_default}
-use Rattle.table_file.proofs.byte_at.Goals as goal
-
-pub returns : goal.returns
-returns c = sym (get_or-eq_default c.args.bytes.now 0 c.if-i-bytes.false)

@@ -78,8 +78,8 @@ abbrev pub refusal_left : Checked → Left
 refusal_left r = left (number_of r) (answer_pair 0 r ∷ [])
 
 -- what a call refuses, of what it hands out
-abbrev pub checked_of : {A : Type 0} → Result A Refusal → Checked
-checked_of r = result_map_both (λ _. tt) (λ e. e) r
+abbrev pub handed_refusal : {A : Type 0} → Result A Refusal → Checked
+handed_refusal r = result_map_both (λ _. tt) (λ e. e) r
 
 -- what is told of the end of a message: a verdict with the first mark, or a refusal
 abbrev pub Told : Type 0
@@ -113,7 +113,7 @@ hasher_by c = result_map_both (λ f. f.hasher) (λ r. r) c
 
 -- what an update or a reset leaves, of what it hands out and the slices before
 abbrev pub updated_told : Result Hasher Refusal → List (List ℕ) → Left
-updated_told u before = left (number_of (checked_of u)) (hasher_or u before ++ answer_pair 0 (checked_of u) ∷ [])
+updated_told u before = left (number_of (handed_refusal u)) (hasher_or u before ++ answer_pair 0 (handed_refusal u) ∷ [])
 
 -- what one block leaves, of what it hands out and the words before
 abbrev pub block_told : Result OneBlock Refusal → List ℕ → Left

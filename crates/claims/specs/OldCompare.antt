@@ -1,5 +1,5 @@
 -- 01's compare as it stood before request c. It is kept here alone, to say which of its answers changed.
-use Rattle.comparison.specs.Compare.{Compared, unless_refused}
+use Rattle.comparison.specs.Compare.{Compared, said_unless}
 use Rattle.std.specs.Prelude.{◌≡◌, List, ℕ, eqb, length}
 use Rattle.word.specs.Choice.{pick}
 use Rattle.octets.specs.Octets.{same_bytes}
@@ -17,7 +17,7 @@ old_comparison_of part digest = pick (eqb (length part) 0) Absent (pick (same_by
 -- what a comparison gave back, whatever the verdict
 unfoldable pub old_compared_of : List ℕ → List ℕ → List ℕ → Compared
 old_compared_of sheet code digest =
-    unless_refused (lookup_refusal sheet code) (old_comparison_of (part_of sheet code) digest)
+    said_unless (lookup_refusal sheet code) (old_comparison_of (part_of sheet code) digest)
 
 -- where an answer changes: nothing is refused, a record has the barcode, and the verdict is not ok
 abbrev pub Changes : List ℕ → List ℕ → Verdict → Type 0

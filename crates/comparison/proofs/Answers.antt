@@ -7,7 +7,7 @@ use Rattle.refusal.specs.Refusal.{Checked, number_of}
 use Rattle.verdict.specs.declared.Verdict.{Verdict}
 use Rattle.verdict.specs.declared.Verdict.TheVariants.{Mitigated, Collision}
 use Rattle.sheet.specs.Sheet.{lookup_refusal, part_of}
-use Rattle.comparison.specs.Compare.{compared_number, unless_refused, comparison_of, compared_of}
+use Rattle.comparison.specs.Compare.{compared_number, said_unless, comparison_of, compared_of}
 use Rattle.comparison.specs.declared.Comparison.{Comparison}
 use Rattle.comparison.specs.declared.Comparison.TheVariants.{Absent, Marked}
 use Rattle.comparison.proofs.Exactly.{answer-marked-exactly, absent-exactly}
@@ -30,6 +30,6 @@ pub same_number : (s c : List ℕ) (v : Verdict) (d : List ℕ) → compared_num
 unfolding compared_of
 same_number s c v d = go (lookup_refusal s c) (comparison_of (part_of s c) v d)
   where
-    go : (r : Checked) (a : Comparison) → compared_number (unless_refused r a) ≡ number_of r
+    go : (r : Checked) (a : Comparison) → compared_number (said_unless r a) ≡ number_of r
     go (Said u) a = refl
     go (Refused r) a = refl

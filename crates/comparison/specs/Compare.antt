@@ -41,10 +41,10 @@ comparison_of part verdict digest =
     Differs))
 
 -- a lookup's refusal, else what is said
-abbrev pub unless_refused : Checked → Comparison → Compared
-unless_refused (Said u) a = Said a
-unless_refused (Refused r) a = Refused r
+abbrev pub said_unless : Checked → Comparison → Compared
+said_unless (Said u) a = Said a
+said_unless (Refused r) a = Refused r
 
 -- what a comparison gives back: the refusal, else what the part found says
 unfoldable pub compared_of : List ℕ → List ℕ → Verdict → List ℕ → Compared
-compared_of sheet code verdict digest = unless_refused (lookup_refusal sheet code) (comparison_of (part_of sheet code) verdict digest)
+compared_of sheet code verdict digest = said_unless (lookup_refusal sheet code) (comparison_of (part_of sheet code) verdict digest)

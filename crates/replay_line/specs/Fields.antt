@@ -27,12 +27,12 @@ abbrev pub small_at : List ℕ → ℕ → Option ℕ
 small_at line i = small_of (field_of line i)
 
 -- the words of a run, where they are whole words
-unfoldable pub words_of : Run → Option Words
-words_of r = pick (eqb (r.len % 4) 0) (Some (record { len = r.len / 4; words = file_words r.bytes most_words })) None
+unfoldable pub words_in : Run → Option Words
+words_in r = pick (eqb (r.len % 4) 0) (Some (record { len = r.len / 4; words = file_words r.bytes most_words })) None
 
 -- field i as words
 abbrev pub hex_words : List ℕ → ℕ → Option Words
-hex_words line i = option_and_then words_of (run_at line i)
+hex_words line i = option_and_then words_in (run_at line i)
 
 -- five words of a list that has five
 abbrev pub five_of_list : List ℕ → Option (List ℕ)

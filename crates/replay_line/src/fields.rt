@@ -1,6 +1,6 @@
 // The fields of a line, read.
 ghost use Rattle.std.specs.Prelude.{◌≡◌, ◌<◌};
-ghost use Rattle.replay_line.specs.Fields.{run_at, small_at, word_list, words_of, hex_words, five_at, word_at, is_mark, is_refusal};
+ghost use Rattle.replay_line.specs.Fields.{run_at, small_at, word_list, words_in, hex_words, five_at, word_at, is_mark, is_refusal};
 
 use crate::hex::{Run, run_of, small_of};
 use cases::{field, front};
@@ -37,9 +37,9 @@ pub fn small_at(line: &str, i: usize) -> Option<usize>
 }
 
 // The words of a run, if its bytes are whole words.
-#[tactic(auto, unfolding(crate::specs::Fields::words_of))]
-fn words_of(run: Run) -> Option<Words>
-    ensures { result ≡ words_of run }
+#[tactic(auto, unfolding(crate::specs::Fields::words_in))]
+fn words_in(run: Run) -> Option<Words>
+    ensures { result ≡ words_in run }
 {
     if run.len % 4 != 0 {
         return None;
@@ -54,7 +54,7 @@ fn words_of(run: Run) -> Option<Words>
 pub fn hex_words(line: &str, i: usize) -> Option<Words>
     ensures { result ≡ hex_words line.now i }
 {
-    words_of(run_at(line, i)?)
+    words_in(run_at(line, i)?)
 }
 
 // A field's five words, where it has five.

@@ -26,9 +26,9 @@ lent_after w OneShot line = w
 lent_after w Reset line = w
 
 -- the words of the table that is lent, none where none can be read
-abbrev pub table_of : Option Words → List ℕ
-table_of None = []
-table_of (Some w) = word_list w
+abbrev pub table_lent : Option Words → List ℕ
+table_lent None = []
+table_lent (Some w) = word_list w
 
 -- the check of the table that the line lends
 abbrev pub table_line : List ℕ → List ℕ → Bool

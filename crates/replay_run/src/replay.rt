@@ -1,6 +1,6 @@
 // The lines of a list, one after the other.
 ghost use Rattle.std.specs.Prelude.{◌≡◌};
-ghost use Rattle.replay_run.specs.Turns.{table_of};
+ghost use Rattle.replay_run.specs.Turns.{table_lent};
 
 use crate::counts::Counts;
 use crate::turns::{is_right, lent_after};
@@ -11,8 +11,8 @@ use std::io;
 use std::io::Write;
 
 // The words of the table that is lent; none where no line before has lent one that can be read.
-fn table_of(lent: &Option<Words>) -> &[u32]
-    ensures { result.now ≡ table_of lent.now }
+fn table_lent(lent: &Option<Words>) -> &[u32]
+    ensures { result.now ≡ table_lent lent.now }
 {
     match lent {
         Some(words) => words.as_slice(),
@@ -32,7 +32,7 @@ pub(crate) fn replay<W: Write>(out: &mut W, text: &str) -> io::Result<Counts> {
             continue;
         };
         lent = lent_after(lent, kind, line);
-        if is_right(&mut h, kind, line, table_of(&lent)) {
+        if is_right(&mut h, kind, line, table_lent(&lent)) {
             counts.add_right(kind, line);
         } else {
             counts.add_difference(out, n)?;

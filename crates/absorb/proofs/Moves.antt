@@ -1,11 +1,11 @@
 -- How a hasher moves over a stream: less than a block, whole blocks and what follows them, and the pending bytes. Assumes nothing.
-use mathlib.Core.Path.{◌≡◌, refl, ap, ◌∙◌}
+use mathlib.Core.Path.{◌≡◌, refl, sym, ap, ◌∙◌}
 use mathlib.Core.Bool.{true}
 use mathlib.Core.List.{List, ◌++◌, append_assoc, append-nil}
 use Prim.Native.Nat.{ℕ, ◌+◌, ◌-◌, ◌*◌, ◌/◌, ◌%◌, ◌≤◌, ◌<◌}
 use native.Mathlib.Omega.{arith}
 use lib.ListN.{length, take, drop, replicate, length-append, length-drop, drop_of_length-le, take-append-drop}
-use lib.Seq.{drop-append-add, length-take-le}
+use lib.Seq.{drop-drop, drop-append-add, length-take-le, take-length, paste}
 use Rattle.octets.proofs.Zeros.{drop-replicate}
 use Rattle.flags.specs.declared.Flags.{Flags}
 use Rattle.loan.specs.Loan.{Loan, later}
@@ -46,9 +46,11 @@ pub absorbed-is : (h : Hasher) (bytes : List ℕ) (l : Loan) → absorbed h byte
 unfolding absorbed advanced
 absorbed-is h bytes l = refl
 
--- zeros with a copy in front
-pub rest-stored : (xs : List ℕ) → xs ++ drop (length xs) (replicate 64 0) ≡ zeroed xs
-rest-stored xs = rw (drop-replicate (length xs) 64 0)
+-- what a copy into zeros holds
+pub rest-stored : (xs : List ℕ) → paste (replicate 64 0) 0 xs (length xs) ≡ zeroed xs
+rest-stored xs =
+    let z : 0 + length xs ≡ length xs = omega arith in
+    rw (z, take-length xs, drop-replicate (length xs) 64 0)
 
 module _ (p d : List ℕ) (f : ℕ) (long : length p ≡ 64) (below : f ≤ 63) where
   front : length (take f p) ≡ f
@@ -58,20 +60,25 @@ module _ (p d : List ℕ) (f : ℕ) (long : length p ≡ 64) (below : f ≤ 63) 
   stream-long = length-append (take f p) d ∙ ap (λ (n : ℕ). n + length d) front
 
   -- the pending bytes with a piece that leaves room
-  pub pend-more : (n : ℕ) → n ≡ length d → all_zero (drop f p) ≡ true → f + length d < 64 → take f p ++ (d ++ drop n (drop f p)) ≡ zeroed (take f p ++ d)
-  pend-more n m z r =
+  pub pend-more : all_zero (drop f p) ≡ true → f + length d < 64 → paste p f d (length d) ≡ zeroed (take f p ++ d)
+  pend-more z r =
       let q : length (drop f p) - length d ≡ 64 - length (take f p ++ d) = omega (arith, length-drop f p, stream-long) in
-      rw (m, zero-all (drop f p) z, drop-replicate (length d) (length (drop f p)) 0, q, append_assoc)
+      let e : drop (f + length d) p ≡ replicate (64 - length (take f p ++ d)) 0 =
+      sym (drop-drop (length d) f p) ∙ rw (zero-all (drop f p) z, drop-replicate (length d) (length (drop f p)) 0, q)
+      in
+      rw (take-length d, e)
 
   -- with a piece that fills them: a block, and the rest of the piece after it
   abbrev pub filled : List ℕ
-  filled = take f p ++ (take (64 - f) d ++ drop (64 - f) (drop f p))
+  filled = paste p f (take (64 - f) d) (length (take (64 - f) d))
 
-  filled-is : filled ≡ take f p ++ take (64 - f) d
-  filled-is = let e : length (drop f p) ≤ 64 - f = omega (arith, length-drop f p) in rw (drop_of_length-le (drop f p) e, append-nil)
+  filled-is : 64 ≤ f + length d → filled ≡ take f p ++ take (64 - f) d
+  filled-is r =
+      let e : length p ≤ f + length (take (64 - f) d) = omega (arith, length-take-le (64 - f) d) in
+      rw (take-length (take (64 - f) d), drop_of_length-le p e, append-nil)
 
   pub pend-block : 64 ≤ f + length d → length filled ≡ 64
-  pend-block r = rw filled-is (omega (arith, length-append (take f p) (take (64 - f) d), front, length-take-le (64 - f) d (omega arith)))
+  pend-block r = rw (filled-is r) (omega (arith, length-append (take f p) (take (64 - f) d), front, length-take-le (64 - f) d (omega arith)))
 
-  pub pend-full : take f p ++ d ≡ filled ++ drop (64 - f) d
-  pend-full = rw (filled-is, append_assoc, take-append-drop (64 - f) d)
+  pub pend-full : 64 ≤ f + length d → take f p ++ d ≡ filled ++ drop (64 - f) d
+  pend-full r = rw (filled-is r, append_assoc, take-append-drop (64 - f) d)

@@ -4,6 +4,8 @@
 ghost use Rattle.std.specs.Prelude.{◌≡◌};
 ghost use Rattle.arguments.specs.Arguments.{kind_of, name_of};
 
+use octets::same_bytes;
+
 // What stands before the file name in an argument that names a table.
 const TABLE_SIGN: &[u8] = b"table=";
 
@@ -26,7 +28,7 @@ pub fn kind_of(arg: &[u8]) -> ArgumentKind
     if arg.starts_with(TABLE_SIGN) {
         return ArgumentKind::Table;
     }
-    if arg == RAW_SIGN {
+    if same_bytes(arg, RAW_SIGN) {
         return ArgumentKind::Raw;
     }
     ArgumentKind::Unknown

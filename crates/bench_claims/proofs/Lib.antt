@@ -14,5 +14,6 @@ pub mod First
 pub mod Kept
 pub mod Every
 pub mod Settled
+pub mod Handed
 -- the laws that they lean on
 pub mod Lanes

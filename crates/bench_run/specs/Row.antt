@@ -1,13 +1,11 @@
 -- A row of 17 hashers, the first of which are lent as a bench.
-use Rattle.std.specs.Prelude.{List, ℕ, nat_lt, min, slice_set, replicate, Result, Ok, Err}
+use Rattle.std.specs.Prelude.{List, ℕ, nat_lt, min, slice_set, replicate}
 use Rattle.word.specs.Choice.{pick}
-use Rattle.refusal.specs.declared.Refusal.{Refusal}
 use Rattle.flags.specs.Flags.{defaults}
 use Rattle.loan.specs.Loan.{Loan}
 use Rattle.hasher.specs.Hasher.{fresh_of}
 use Rattle.hasher.specs.declared.Hasher.{Hasher}
-use Rattle.bench_by_value.specs.ByValue.{bench_handed, bench_finish_handed, updated_through, finished_through, reset_through}
-use Rattle.bench_by_value.specs.declared.BenchFinished.{BenchFinished}
+use Rattle.bench_by_value.specs.ByValue.{updated_through, finished_through, reset_through}
 use Rattle.bench_run.specs.declared.row.Row.{Row}
 
 -- so many hashers lent of these
@@ -26,24 +24,14 @@ lent_of row = min row.count 17
 abbrev pub seated_at : Row → ℕ → Hasher → Row
 seated_at row at h = pick (nat_lt at 17) (row_of row.count (slice_set row.hashers at h)) row
 
--- the row with the hashers that a call hands back; a call that is refused leaves it
-abbrev pub row_with : Row → Result (List Hasher) Refusal → Row
-row_with row (Ok hashers) = row_of row.count hashers
-row_with row (Err r) = row
-
--- the same of a finish
-abbrev pub row_after : Row → Result BenchFinished Refusal → Row
-row_after row (Ok f) = row_of row.count f.bench
-row_after row (Err r) = row
-
 -- the row that an update of a lane leaves
 abbrev pub row_updated : Row → ℕ → List ℕ → Loan → Row
-row_updated row lane bytes l = row_with row (bench_handed (updated_through row.hashers (lent_of row) lane bytes l))
+row_updated row lane bytes l = row_of row.count (updated_through row.hashers (lent_of row) lane bytes l).bench
 
 -- the row that a lane's finish leaves
 abbrev pub row_finished : Row → ℕ → List ℕ → Loan → Row
-row_finished row lane out l = row_after row (bench_finish_handed (finished_through row.hashers (lent_of row) lane out l))
+row_finished row lane out l = row_of row.count (finished_through row.hashers (lent_of row) lane out l).bench
 
 -- the row that a lane's reset leaves
 abbrev pub row_reset : Row → ℕ → Row
-row_reset row lane = row_with row (bench_handed (reset_through row.hashers (lent_of row) lane))
+row_reset row lane = row_of row.count (reset_through row.hashers (lent_of row) lane).bench

@@ -20,7 +20,7 @@ fn pending_of(bytes: &[u8]) -> [u8; 64]
 
 // A hasher of the fields that a line gives, well formed or not. Its words must be five, and its pending bytes such as can be read.
 #[tactic(auto, unfolding(crate::specs::Given::line_hasher))]
-pub(crate) fn line_hasher(line: &str) -> Option<Hasher>
+pub(crate) fn line_hasher(line: &[u8]) -> Option<Hasher>
     ensures { result ≡ line_hasher line.now }
 {
     let words = five_at(line, 6)?;
@@ -50,7 +50,7 @@ pub(crate) struct Given {
 
 impl Given {
     // By fields 2 to 7 and field 9.
-    pub(crate) fn of(line: &str) -> Option<Given> {
+    pub(crate) fn of(line: &[u8]) -> Option<Given> {
         let records = records_of(line);
         Some(Given {
             records,

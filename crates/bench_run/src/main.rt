@@ -13,5 +13,7 @@ use std::io;
 
 fn main(rt: HostRuntime) -> io::Result<()> {
     let mut row = Row::of_new();
-    play_cases(&rt, "calls.txt", |out, line| play(&mut row, out, line))
+    play_cases(&rt, b"calls.txt", |out, letter, line| {
+        play(&mut row, out, letter, line)
+    })
 }

@@ -1,10 +1,11 @@
-// The hashers that calls are made on, and how many of them are lent. A call that is refused leaves them all as they were.
+// The hashers that calls are made on, and how many of them are lent. A call is made by value; one that is refused so hands back no
+// hashers, and is made once more where they lie, so that what it leaves of them is seen.
 ghost use Rattle.std.specs.Prelude.{◌≡◌, ◌≤◌};
 ghost use Rattle.loan.specs.Loan.{loan_in};
 ghost use Rattle.bench_by_value.specs.ByValue.{written_through};
 ghost use Rattle.bench_run.specs.Row.{all_new, lent_of, seated_at, row_updated, row_finished, row_reset};
 
-use bench::LaneAnswer;
+use bench::{LaneAnswer, lane_finish, lane_reset, lane_update};
 use bench_by_value::{finish_through, reset_through, update_through};
 use flags::Flags;
 use hasher::Hasher;
@@ -60,8 +61,17 @@ impl Row {
     ) -> Result<(), Refusal>
         ensures { self.new ≡ row_updated self.old lane bytes.now (loan_in lent.entry) }
     {
-        self.hashers = update_through(self.hashers, self.lent(), lane, bytes, lent)?;
-        Ok(())
+        let count = self.lent();
+        match update_through(self.hashers, count, lane, bytes, lent) {
+            Ok(hashers) => {
+                self.hashers = hashers;
+                Ok(())
+            }
+            Err(refusal) => {
+                let front = &mut self.hashers[..count];
+                lane_update(front, lane, bytes, lent).or(Err(refusal))
+            }
+        }
     }
 
     // The digest of a lane's message written to a lent output, and the lane reset.
@@ -74,20 +84,34 @@ impl Row {
         ensures left { self.new ≡ row_finished self.old lane out.old (loan_in lent.entry) }
         ensures written { out.new ≡ written_through self.old.hashers (lent_of self.old) lane out.old (loan_in lent.entry) }
     {
-        let finished = finish_through(self.hashers, self.lent(), lane, out, lent)?;
-        let hashers = finished.bench;
-        self.hashers = hashers;
-        Ok(LaneAnswer {
-            verdict: finished.verdict,
-            first: finished.first,
-        })
+        let count = self.lent();
+        match finish_through(self.hashers, count, lane, out, lent) {
+            Ok(finished) => {
+                let hashers = finished.bench;
+                self.hashers = hashers;
+                Ok(LaneAnswer {
+                    verdict: finished.verdict,
+                    first: finished.first,
+                })
+            }
+            Err(refusal) => {
+                let front = &mut self.hashers[..count];
+                lane_finish(front, lane, out, lent).or(Err(refusal))
+            }
+        }
     }
 
     // Everything on a lane but its flags as at the start.
     pub(crate) fn reset(&mut self, lane: usize) -> Result<(), Refusal>
         ensures { self.new ≡ row_reset self.old lane }
     {
-        self.hashers = reset_through(self.hashers, self.lent(), lane)?;
-        Ok(())
+        let count = self.lent();
+        match reset_through(self.hashers, count, lane) {
+            Ok(hashers) => {
+                self.hashers = hashers;
+                Ok(())
+            }
+            Err(refusal) => lane_reset(&mut self.hashers[..count], lane).or(Err(refusal)),
+        }
     }
 }

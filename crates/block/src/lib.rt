@@ -8,6 +8,7 @@ ghost use Rattle.block.specs.Schedule.{words_of, schedule_of};
 ghost use Rattle.block.specs.Compress.{over_schedule, compress_of, states_of};
 ghost use Rattle.block.specs.Stage.{Stage, Onward};
 
+use octets::be_word;
 use step::{Regs, add_regs, step, steps};
 use word::mix;
 
@@ -28,7 +29,7 @@ fn word_at(block: &[u8; 64], i: usize) -> u32
     ensures { result ≡ be32_at block.now i }
 {
     let at = 4 * i;
-    u32::from_be_bytes([block[at], block[at + 1], block[at + 2], block[at + 3]])
+    be_word(block[at], block[at + 1], block[at + 2], block[at + 3])
 }
 
 // Words from..to of the schedule read from the block, each stepped as soon as it is there: a schedule filled

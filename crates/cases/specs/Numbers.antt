@@ -1,20 +1,19 @@
 -- What the fields of a case are read as.
-use Rattle.std.specs.Prelude.{Bool, List, ℕ, ◌/◌, ◌%◌, ◌^◌, ◌&&◌, if◌then◌else◌, eqb, nat_lt, length}
-use Rattle.std.specs.Str.{all_ascii_digits}
-use Rattle.std.specs.Str.Parse.{digits_value, without_leading_plus}
+use Rattle.std.specs.Prelude.{List, ℕ, ◌+◌, ◌*◌, ◌/◌, ◌%◌, eqb}
+use Rattle.std.specs.List.{fold}
 use Rattle.word.specs.Choice.{pick}
 use Rattle.flags.specs.declared.Flags.{Flags}
 use Rattle.flags.specs.declared.Masks.TheVariants.{Conditions}
 use Rattle.flags.specs.Flags.{masks_of}
 use Rattle.cases.specs.Lines.{field_of}
 
--- some digits, and no number too large for a usize
-abbrev pub is_number : List ℕ → Bool
-is_number ds = nat_lt 0 (length ds) && all_ascii_digits ds && nat_lt (digits_value 10 ds) (2 ^ 64)
+-- a number with one more digit, given in ASCII, behind its last 18
+abbrev pub with_digit : ℕ → ℕ → ℕ
+with_digit n digit = 10 * (n % 1000000000000000000) + digit % 16
 
--- the number of some decimal digits, which may stand behind a +; 0 where a text is no such number
-unfoldable pub decimal_value : List ℕ → ℕ
-decimal_value text = if is_number (without_leading_plus text) then digits_value 10 (without_leading_plus text) else 0
+-- the number of some decimal digits, each byte taken for one by its low half
+abbrev pub decimal_value : List ℕ → ℕ
+decimal_value digits = fold with_digit 0 digits
 
 -- field i as a number
 abbrev pub number_at : List ℕ → ℕ → ℕ

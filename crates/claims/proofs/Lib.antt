@@ -25,6 +25,7 @@ pub mod Typed
 pub mod FinishReset
 pub mod Several
 pub mod Settled
+pub mod Handed
 pub mod Unseen
 pub mod BothSettings
 pub mod SurvivingPieces

@@ -72,6 +72,10 @@ use Rattle.loan.proofs.Lent.looked_at.Kinds as looked-at-kinds
 use Rattle.loan.proofs.Lent.conditions_for.Kinds as conditions-for-kinds
 use Rattle.loan.proofs.Lent.looked_at.Reads as looked-at-contract
 use Rattle.loan.proofs.Lent.conditions_for.Reads as conditions-for-contract
+use Rattle.loan.proofs.Lent.of_table.Kinds as of-table-kinds
+use Rattle.loan.proofs.Lent.of_table.Reads as of-table-contract
+use Rattle.loan.proofs.Lent.nothing.Kinds as nothing-kinds
+use Rattle.loan.proofs.Lent.nothing.Reads as nothing-contract
 use Rattle.loan.proofs.Lent.later.Kinds as later-kinds
 use Rattle.loan.proofs.Lent.later.Reads as later-contract
 use Rattle.hasher.proofs.reset.Kinds as reset-kinds
@@ -281,6 +285,13 @@ lookup-settled t = (same t.first.0 t.second.0, same t.first.1 t.second.1)
 -- What is left of a loan for the blocks after the first n: what it holds; where that lies is left open.
 pub later-settled : (t : TwoResults 1 later-kinds.ps later-kinds.r later-contract.Post) → loan_in t.x ≡ loan_in t.y
 later-settled t = same t.first t.second
+
+-- A table alone, and nothing, as what is lent: likewise.
+pub of-table-settled : (t : TwoResults 1 of-table-kinds.ps of-table-kinds.r of-table-contract.Post) → loan_in t.x ≡ loan_in t.y
+of-table-settled t = same t.first t.second
+
+pub nothing-settled : (t : TwoResults 1 nothing-kinds.ps nothing-kinds.r nothing-contract.Post) → loan_in t.x ≡ loan_in t.y
+nothing-settled t = same t.first t.second
 
 -- The masks that the flags ask for: likewise.
 pub looked-at-settled : (t : TwoResults 1 looked-at-kinds.ps looked-at-kinds.r looked-at-contract.Post) → t.x.now ≡ t.y.now

@@ -15,3 +15,4 @@ pub mod Control
 pub mod Settled
 pub mod BenchChecks
 pub mod OldCompare
+pub mod Handed

@@ -4,6 +4,7 @@
 ghost use Rattle.std.specs.Prelude.{◌≡◌, Some};
 ghost use Rattle.comparison.specs.Compare.{comparison_word, comparison_of, compared_of};
 
+use octets::same_bytes;
 use refusal::Refusal;
 use sheet::{lookup, lookup_refusal};
 use std::fmt;
@@ -45,7 +46,6 @@ impl fmt::Display for Comparison {
 
 // What the part that a lookup found says of a verdict and a digest. The empty part has no record behind it; and after a mark
 // an equal digest may be that of another message, so that it is not looked at.
-#[tactic(auto, using(octets::proofs::Same::pointwise_same))]
 fn compare_part(part: &[u8], verdict: Verdict, digest: [u8; DIGEST_SIZE]) -> Comparison
     ensures { result ≡ comparison_of part.now verdict digest }
 {
@@ -55,7 +55,7 @@ fn compare_part(part: &[u8], verdict: Verdict, digest: [u8; DIGEST_SIZE]) -> Com
     if verdict != Verdict::Ok {
         return Comparison::Marked;
     }
-    if part != digest.as_slice() {
+    if !same_bytes(part, &digest) {
         return Comparison::Differs;
     }
     Comparison::Match

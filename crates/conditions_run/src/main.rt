@@ -6,9 +6,7 @@
 mod message;
 mod tried;
 
-use cases::{
-    conditions_of, each_case, field, file_filling, file_text, from_field, front, number_at,
-};
+use cases::{conditions_of, each_case, file_filling, file_text, from_field, front, number_at};
 use conditions::condition_fault;
 use loan::Lent;
 use message::{say_control, say_published};
@@ -24,29 +22,36 @@ const MESSAGE: usize = 320;
 const CONDITIONS: usize = 936;
 
 // What is wrong with the first words of 513 conditions, of which a case changes two.
-fn say_fault<W: Write>(out: &mut W, line: &str) -> io::Result<()> {
+fn say_fault<W: Write>(out: &mut W, line: &[u8]) -> io::Result<()> {
     let conditions = conditions_of(line, 2);
     let fault = condition_fault(front(&conditions, number_at(line, 1)));
-    writeln!(out, "{}: {}", from_field(line, 6), Said(fault))
+    out.write_all(from_field(line, 6))?;
+    writeln!(out, ": {}", Said(fault))
 }
 
 // A case by its letter, with the published file and what is lent for it: its vectors and its conditions, and no masks.
-fn play<W: Write>(out: &mut W, line: &str, m: &[u8], lent: Lent<'_>) -> io::Result<()> {
-    match field(line, 0) {
-        "f" => say_fault(out, line),
-        "b" => say_block(out, line, m, lent),
-        "c" => say_control(out, line),
-        "p" => say_published(out, line, m, lent),
+fn play<W: Write>(
+    out: &mut W,
+    letter: u8,
+    line: &[u8],
+    m: &[u8],
+    lent: Lent<'_>,
+) -> io::Result<()> {
+    match letter {
+        b'f' => say_fault(out, line),
+        b'b' => say_block(out, line, m, lent),
+        b'c' => say_control(out, line),
+        b'p' => say_published(out, line, m, lent),
         _ => Ok(()),
     }
 }
 
 fn main(rt: HostRuntime) -> io::Result<()> {
     let mut out = BufWriter::new(rt.alloc(), io::writer(&rt))?;
-    let text = file_text(&rt, &mut out, "cases.txt")?;
-    let message = file_filling(&rt, &mut out, "shattered-1.first320.bin", MESSAGE)?;
-    let vectors = file_filling(&rt, &mut out, "real-table.bin", 4 * MOST_WORDS)?;
-    let file = file_filling(&rt, &mut out, "conditions.bin", 4 * CONDITIONS)?;
+    let text = file_text(&rt, &mut out, b"cases.txt")?;
+    let message = file_filling(&rt, &mut out, b"shattered-1.first320.bin", MESSAGE)?;
+    let vectors = file_filling(&rt, &mut out, b"real-table.bin", 4 * MOST_WORDS)?;
+    let file = file_filling(&rt, &mut out, b"conditions.bin", 4 * CONDITIONS)?;
     let table = file_words(&vectors);
     let records = file_words(&file);
     let lent = Lent {
@@ -54,8 +59,8 @@ fn main(rt: HostRuntime) -> io::Result<()> {
         conditions: front(&records, CONDITIONS),
         masks: &[],
     };
-    each_case(&text, &mut out, |out, line| {
-        play(out, line, &message, lent)
+    each_case(&text, &mut out, |out, letter, line| {
+        play(out, letter, line, &message, lent)
     })?;
     out.flush()
 }

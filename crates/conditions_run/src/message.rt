@@ -44,7 +44,7 @@ fn by_finish_reset<W: Write>(
 }
 
 // A message both ways, with the flags of field 1. No mask is lent.
-fn both_ways<W: Write>(out: &mut W, line: &str, m: &[u8], lent: Lent<'_>) -> io::Result<()> {
+fn both_ways<W: Write>(out: &mut W, line: &[u8], m: &[u8], lent: Lent<'_>) -> io::Result<()> {
     let flags = flags_of_bits(number_at(line, 1));
     by_finish(out, flags, m, lent)?;
     write!(out, "; ")?;
@@ -53,14 +53,14 @@ fn both_ways<W: Write>(out: &mut W, line: &str, m: &[u8], lent: Lent<'_>) -> io:
 }
 
 // The condition of fields 3 to 8.
-fn condition_of(line: &str) -> [u32; 6]
+fn condition_of(line: &[u8]) -> [u32; 6]
     ensures { result ≡ condition_of line.now }
 {
     array::from_fn(|k| word_field(line, 3 + k))
 }
 
 // `hello world` with the control record, and the first words of one condition.
-pub(crate) fn say_control<W: Write>(out: &mut W, line: &str) -> io::Result<()> {
+pub(crate) fn say_control<W: Write>(out: &mut W, line: &[u8]) -> io::Result<()> {
     let condition = condition_of(line);
     let mut table = [0u32; 82];
     table[1] = 58;
@@ -69,14 +69,15 @@ pub(crate) fn say_control<W: Write>(out: &mut W, line: &str) -> io::Result<()> {
         conditions: front(&condition, number_at(line, 2)),
         masks: &[],
     };
-    write!(out, "{}: ", from_field(line, 9))?;
+    out.write_all(from_field(line, 9))?;
+    write!(out, ": ")?;
     both_ways(out, line, b"hello world", lent)
 }
 
 // The first bytes of the published file, with the vectors and the first words of the conditions.
 pub(crate) fn say_published<W: Write>(
     out: &mut W,
-    line: &str,
+    line: &[u8],
     m: &[u8],
     lent: Lent<'_>,
 ) -> io::Result<()> {
@@ -84,6 +85,7 @@ pub(crate) fn say_published<W: Write>(
         conditions: front(lent.conditions, number_at(line, 3)),
         ..lent
     };
-    write!(out, "{}: ", from_field(line, 4))?;
+    out.write_all(from_field(line, 4))?;
+    write!(out, ": ")?;
     both_ways(out, line, front(m, number_at(line, 2)), fewer)
 }

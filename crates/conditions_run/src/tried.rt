@@ -57,7 +57,7 @@ fn say_tried<W: Write>(
 // Block i of a message, where it has so many.
 pub(crate) fn say_block<W: Write>(
     out: &mut W,
-    line: &str,
+    line: &[u8],
     m: &[u8],
     lent: Lent<'_>,
 ) -> io::Result<()> {
@@ -66,7 +66,8 @@ pub(crate) fn say_block<W: Write>(
     if let Some(block) = blocks.get(i) {
         let words = words_before(m, i);
         let survivors = surviving_for(block, lent.conditions);
-        write!(out, "{}: ", from_field(line, 2))?;
+        out.write_all(from_field(line, 2))?;
+        write!(out, ": ")?;
         say_tried(out, words, block, lent.table, survivors)?;
         write!(out, "; ")?;
         say_tried(out, words, block, lent.table, 0xFFFFFFFF)?;

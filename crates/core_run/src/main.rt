@@ -25,14 +25,15 @@ const START: [u32; 5] = [0x67452301, 0xEFCDAB89, 0x98BADCFE, 0x10325476, 0xC3D2E
 // The case, the words, and what was found; behind a refusal zeros.
 fn say_block<W: Write>(
     out: &mut W,
-    case: &str,
+    case: &[u8],
     answer: Result<OneBlock, Refusal>,
 ) -> io::Result<()> {
+    out.write_all(case)?;
     match answer {
-        Ok(b) => writeln!(out, "{case}: {}{}", Said(b.words), Said(b.found)),
+        Ok(b) => writeln!(out, ": {}{}", Said(b.words), Said(b.found)),
         Err(refusal) => {
             let nothing = Found { by: None, tried: 0 };
-            write!(out, "{case}: {}, ", Said(refusal))?;
+            write!(out, ": {}, ", Said(refusal))?;
             writeln!(out, "{}{}", Said([0u32; 5]), Said(nothing))
         }
     }
@@ -47,7 +48,7 @@ fn abc() -> [u8; 128] {
 }
 
 // The block of `abc`, or fewer or more bytes, with control records.
-fn control<W: Write>(out: &mut W, line: &str) -> io::Result<()> {
+fn control<W: Write>(out: &mut W, line: &[u8]) -> io::Result<()> {
     let t = records_of(line);
     let block = abc();
     let answer = one_block(
@@ -60,8 +61,13 @@ fn control<W: Write>(out: &mut W, line: &str) -> io::Result<()> {
     say_block(out, from_field(line, 9), answer)
 }
 
-// Block i of a message, from the words after the blocks before it, which are tried with nothing: their mask is 0. Where the message
-// has no such block, all of it is given.
+// Block i of a message; where it has no such block, all of it.
+fn block_at(m: &[u8], i: usize) -> &[u8] {
+    m.chunks_exact(64).nth(i).unwrap_or(m)
+}
+
+// Block i of a message, from the words after the blocks before it, which are tried with nothing: their mask is 0. Where one of
+// those is refused the last call is too, whatever the words are.
 fn nth_block(
     m: &[u8],
     i: usize,
@@ -70,18 +76,20 @@ fn nth_block(
     mode: Mode,
 ) -> Result<OneBlock, Refusal> {
     let mut words = START;
-    for block in m.chunks_exact(64).take(i) {
-        words = one_block(words, block, table, 0, mode)?.words;
+    for k in 0..i {
+        match one_block(words, block_at(m, k), table, 0, mode) {
+            Ok(b) => words = b.words,
+            Err(_) => break,
+        }
     }
-    let block = m.chunks_exact(64).nth(i).unwrap_or(m);
-    one_block(words, block, table, mask, mode)
+    one_block(words, block_at(m, i), table, mask, mode)
 }
 
 // A block of a published file, of which field 2 says how many bytes are looked at.
 fn published<R: Files + AllocGlobal, W: Write>(
     rt: &R,
     out: &mut W,
-    line: &str,
+    line: &[u8],
     table: &[u32],
 ) -> io::Result<()> {
     let n = number_at(line, 2);
@@ -100,31 +108,31 @@ fn published<R: Files + AllocGlobal, W: Write>(
 }
 
 // What is wrong with the first bytes of a table file, one byte of which a case may change.
-fn table_file<R: Files + AllocGlobal, W: Write>(rt: &R, out: &mut W, line: &str) -> io::Result<()> {
-    let mut bytes = file_filling(rt, out, "longer-table.bin", LONGER_TABLE)?;
+fn table_file<R: Files + AllocGlobal, W: Write>(
+    rt: &R,
+    out: &mut W,
+    line: &[u8],
+) -> io::Result<()> {
+    let mut bytes = file_filling(rt, out, b"longer-table.bin", LONGER_TABLE)?;
     if let Some(byte) = bytes.get_mut(number_at(line, 2)) {
         *byte = (number_at(line, 3) % 256) as u8;
     }
     let fault = file_fault(front(&bytes, number_at(line, 1)));
-    writeln!(
-        out,
-        "{}: {} at {}",
-        from_field(line, 4),
-        number_of(fault),
-        place_of(fault),
-    )
+    out.write_all(from_field(line, 4))?;
+    writeln!(out, ": {} at {}", number_of(fault), place_of(fault))
 }
 
 fn one<R: Files + AllocGlobal, W: Write>(
     rt: &R,
     out: &mut W,
-    line: &str,
+    letter: u8,
+    line: &[u8],
     table: &[u32],
 ) -> io::Result<()> {
-    match field(line, 0) {
-        "c" => control(out, line),
-        "f" => table_file(rt, out, line),
-        "p" => published(rt, out, line, table),
+    match letter {
+        b'c' => control(out, line),
+        b'f' => table_file(rt, out, line),
+        b'p' => published(rt, out, line, table),
         _ => Ok(()),
     }
 }
@@ -132,9 +140,11 @@ fn one<R: Files + AllocGlobal, W: Write>(
 // The cases, with the table of a file.
 fn main(rt: HostRuntime) -> io::Result<()> {
     let mut out = BufWriter::new(rt.alloc(), io::writer(&rt))?;
-    let text = file_text(&rt, &mut out, "cases.txt")?;
-    let bytes = file_filling(&rt, &mut out, "real-table.bin", 4 * MOST_WORDS)?;
+    let text = file_text(&rt, &mut out, b"cases.txt")?;
+    let bytes = file_filling(&rt, &mut out, b"real-table.bin", 4 * MOST_WORDS)?;
     let table = file_words(&bytes);
-    each_case(&text, &mut out, |out, line| one(&rt, out, line, &table))?;
+    each_case(&text, &mut out, |out, letter, line| {
+        one(&rt, out, letter, line, &table)
+    })?;
     out.flush()
 }

@@ -10,6 +10,7 @@ ghost use Rattle.finish.specs.Finish.{last_chain, first_told, finish_refusal, fi
 use fips::{digest, tail, tail_blocks};
 use hasher::{Hasher, well_formed};
 use loan::Lent;
+use octets::store;
 use refusal::Refusal;
 use stream::{Chain, FirstMark, fold_blocks};
 use verdict::{DIGEST_SIZE, Verdict, verdict_of};
@@ -93,7 +94,7 @@ pub fn finish_and_reset(h: Hasher, out: &mut [u8], lent: Lent<'_>) -> Result<Fin
     check_finish(h, out.len(), lent)?;
     let c = last_chain(h, lent);
     let verdict = verdict_of(c.mark, h.flags.mitigate);
-    out.copy_from_slice(&digest(c.words));
+    store(out, 0, &digest(c.words), DIGEST_SIZE);
     Ok(FinishedReset {
         verdict,
         first: first_told(verdict, c.first),

@@ -1,14 +1,13 @@
 -- The last one or two blocks of a message, and the sizes of what is stored. Assumes nothing.
-use mathlib.Core.Path.{◌≡◌, refl, sym, ap, ◌∙◌}
+use mathlib.Core.Path.{◌≡◌, refl, ap, ap₂, ◌∙◌}
 use mathlib.Core.Bool.{Bool, true, false}
-use mathlib.Core.List.{List, ◌++◌, append_assoc}
-use borrow.Rule.Slice.PartMut.{put_mid, post_of}
+use mathlib.Core.List.{List, ◌++◌}
 use Prim.Native.Nat.{ℕ, ◌+◌, ◌-◌, ◌*◌, ◌≤◌}
 use native.Mathlib.Omega.{arith}
 use borrow.Author.Tests.{leb-true, leb-false}
 use lib.Dec.{leb}
-use lib.ListN.{length, take, drop, length-append}
-use lib.Seq.{take-append-le, take_all}
+use lib.ListN.{length, take}
+use lib.Seq.{paste, take-paste, length-paste, take_all}
 use Rattle.word.specs.Choice.{pick}
 use Rattle.octets.specs.Octets.{bytes64}
 use Rattle.step.specs.declared.Regs.{Regs}
@@ -40,28 +39,24 @@ pub bytes64-length : (x : ℕ) → length (bytes64 x) ≡ 8
 unfolding bytes64
 bytes64-length x = refl
 
--- a front of a list, by its length
-front : (n : ℕ) (xs ys : List ℕ) → length xs ≡ n → take n (xs ++ ys) ≡ xs
-front n xs ys h = take-append-le n xs ys (omega arith) ∙ take_all n xs (omega arith)
-
--- three pieces written one after the other, from f on and from e on
-pub pieces_put : (z p s q p' s' q' : List ℕ) (f e n : ℕ) → f ≤ e → n ≡ e + 8 → length p' ≡ f → length s' ≡ e - f → length q' ≡ 8 → p ≡ p' → s ≡ s' → q ≡ q'
-    → take n (put_mid e (e + 8 - e) (put_mid f (e - f) (p ++ drop f z) s) q) ≡ p' ++ s' ++ q'
-pieces_put z p s q p' s' q' f e n h m kp ks kq ep es eq =
-    let lp = ap length ep ∙ kp in
-    let ls = ap length es ∙ ks in
-    let lq = ap length eq ∙ kq in
-    let x : take f (p ++ drop f z) ≡ p = front f p (drop f z) lp in
-    let rest = post_of f (e - f) (p ++ drop f z) in
-    let y : take e (p ++ (s ++ rest)) ≡ p ++ s = ap (take e) (sym (append_assoc p s rest)) ∙ front e (p ++ s) rest (length-append p s ∙ omega arith) in
-    let u = post_of e (e + 8 - e) (put_mid f (e - f) (p ++ drop f z) s) in
-    let v : take n ((p ++ s) ++ (q ++ u)) ≡ (p ++ s) ++ q =
-    ap (take n) (sym (append_assoc (p ++ s) q u)) ∙ front n ((p ++ s) ++ q) u (length-append (p ++ s) q ∙ omega (arith, length-append p s))
+-- three pieces stored one after the other, the second up to `end`
+pub tail-stored : (z p s q : List ℕ) (f end : ℕ) → f ≤ end → end + 8 ≤ length z → f ≤ length p → end - f ≤ length s → length q ≡ 8
+    → take (end + 8) (paste (paste (paste z 0 p f) f s (end - f)) end q 8) ≡ take f p ++ take (end - f) s ++ q
+tail-stored z p s q f end fe ez fp es lq =
+    let a = length-paste z 0 p f (omega arith) fp in
+    let b = length-paste (paste z 0 p f) f s (end - f) (omega arith) es in
+    let m : end ≡ f + (end - f) = omega arith in
+    let o : f ≡ 0 + f = omega arith in
+    let x : take f (paste z 0 p f) ≡ take f p =
+    ap (λ (n : ℕ). take n (paste z 0 p f)) o ∙ take-paste z 0 p f (omega arith) fp
     in
-    let all : take n (take e (take f (p ++ drop f z) ++ (s ++ rest)) ++ (q ++ u)) ≡ (p ++ s) ++ q =
-    ap (λ (l : List ℕ). take n (take e (l ++ (s ++ rest)) ++ (q ++ u))) x ∙ ap (λ (l : List ℕ). take n (l ++ (q ++ u))) y ∙ v
+    let y : take end (paste (paste z 0 p f) f s (end - f)) ≡ take f p ++ take (end - f) s =
+    ap (λ (n : ℕ). take n (paste (paste z 0 p f) f s (end - f))) m
+    ∙ take-paste (paste z 0 p f) f s (end - f) (omega arith) es
+    ∙ ap (λ (l : List ℕ). l ++ take (end - f) s) x
     in
-    all ∙ cc
+    take-paste (paste (paste z 0 p f) f s (end - f)) end q 8 (omega arith) (omega arith)
+    ∙ ap₂ (λ (l r : List ℕ). l ++ r) y (take_all 8 q (omega arith))
 
 pub digest-length : (h : Regs) → length (digest_of h) ≡ 20
 unfolding digest_of

@@ -8,6 +8,7 @@ ghost use Rattle.fips.specs.Fips.{most_bytes, hash_blocks, digest_of};
 ghost use Rattle.fips.specs.Tail.{tail_blocks, tail_of};
 
 use block::compression_plain;
+use octets::{bytes_32, bytes_64, store};
 use step::Regs;
 
 pub const SHA1_PADDING: [u8; 64] = [
@@ -42,9 +43,9 @@ pub fn tail(pending: [u8; 64], fill: usize, bytes: u64) -> [u8; 128]
 {
     let end = 64 * tail_blocks(fill) - 8;
     let mut last = [0u8; 128];
-    last[..fill].copy_from_slice(&pending[..fill]);
-    last[fill..end].copy_from_slice(&SHA1_PADDING[..end - fill]);
-    last[end..end + 8].copy_from_slice(&(8 * bytes).to_be_bytes());
+    store(&mut last, 0, &pending, fill);
+    store(&mut last, fill, &SHA1_PADDING, end - fill);
+    store(&mut last, end, &bytes_64(8 * bytes), 8);
     last
 }
 
@@ -54,10 +55,10 @@ pub fn digest(h: Regs) -> [u8; 20]
     ensures { result ≡ digest_of h }
 {
     let mut bytes = [0u8; 20];
-    bytes[0..4].copy_from_slice(&h.a.to_be_bytes());
-    bytes[4..8].copy_from_slice(&h.b.to_be_bytes());
-    bytes[8..12].copy_from_slice(&h.c.to_be_bytes());
-    bytes[12..16].copy_from_slice(&h.d.to_be_bytes());
-    bytes[16..20].copy_from_slice(&h.e.to_be_bytes());
+    store(&mut bytes, 0, &bytes_32(h.a), 4);
+    store(&mut bytes, 4, &bytes_32(h.b), 4);
+    store(&mut bytes, 8, &bytes_32(h.c), 4);
+    store(&mut bytes, 12, &bytes_32(h.d), 4);
+    store(&mut bytes, 16, &bytes_32(h.e), 4);
     bytes
 }

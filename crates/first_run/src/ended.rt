@@ -2,29 +2,30 @@
 // handed out, and where the hasher that comes back is marked.
 use crate::piece::{last_lent, piece};
 use cases::{flags_of_bits, front, number_at};
-use finish::{Finished, finish, finish_and_reset};
+use finish::{finish, finish_and_reset};
 use flags::Flags;
 use hasher::Hasher;
 use in_place::through;
 use loan::Lent;
 use one_shot::one_shot;
-use printing::Said;
+use printing::{Hex, Said};
 use refusal::Refusal;
 use std::io;
 use std::io::Write;
+use stream::FirstMark;
 use update::update;
-use verdict::DIGEST_SIZE;
+use verdict::{DIGEST_SIZE, Verdict};
 
-// What a hasher's finish gave. On a refusal the hasher is as it was.
+// What a finish said and gave, and where the hasher that comes back was first marked.
 fn say_end<W: Write>(
     out: &mut W,
-    h: Hasher,
-    finished: Result<Finished, Refusal>,
+    outcome: Result<Verdict, Refusal>,
+    digest: &[u8],
+    first: Option<FirstMark>,
+    back: Hasher,
 ) -> io::Result<()> {
-    let first = finished.ok().and_then(|f| f.first);
-    let back = finished.map_or(h, |f| f.hasher);
-    write!(out, "{}, {}, ", Said(finished), Said(first))?;
-    write!(out, "back {}", Said(back.first))
+    write!(out, "{} {}, ", Said(outcome), Hex(digest))?;
+    write!(out, "{}, back {}", Said(first), Said(back.first))
 }
 
 // Two updates, and a finish.
@@ -40,7 +41,11 @@ fn by_finish<W: Write>(
         let g = piece(update, Hasher::new(flags), m, 0, cut, lent);
         let h = piece(update, g, m, cut, n, lent);
         write!(out, "{}; {}; ", Said(g.first), Said(h.first))?;
-        say_end(out, h, finish(h, last_lent(lent, n)))?;
+        let finished = finish(h, last_lent(lent, n));
+        let digest = finished.map_or([0; DIGEST_SIZE], |f| f.digest);
+        let first = finished.ok().and_then(|f| f.first);
+        let back = finished.map_or(h, |f| f.hasher);
+        say_end(out, finished.map(|f| f.verdict), &digest, first, back)?;
     }
     Ok(())
 }
@@ -58,13 +63,10 @@ fn by_finish_reset<W: Write>(
         let g = piece(through, Hasher::new(flags), m, 0, cut, lent);
         let h = piece(through, g, m, cut, n, lent);
         let mut digest = [0u8; DIGEST_SIZE];
-        let finished = finish_and_reset(h, &mut digest, last_lent(lent, n)).map(|f| Finished {
-            verdict: f.verdict,
-            digest,
-            first: f.first,
-            hasher: f.hasher,
-        });
-        say_end(out, h, finished)?;
+        let finished = finish_and_reset(h, &mut digest, last_lent(lent, n));
+        let first = finished.ok().and_then(|f| f.first);
+        let back = finished.map_or(h, |f| f.hasher);
+        say_end(out, finished.map(|f| f.verdict), &digest, first, back)?;
     }
     Ok(())
 }
@@ -72,7 +74,7 @@ fn by_finish_reset<W: Write>(
 // Both, with the flags of field 3 and the cut of field 15.
 pub(crate) fn both_ways<W: Write>(
     out: &mut W,
-    line: &str,
+    line: &[u8],
     m: &[u8],
     lent: Lent<'_>,
 ) -> io::Result<()> {
@@ -87,7 +89,7 @@ pub(crate) fn both_ways<W: Write>(
 // The one-shot form, with as many masks as field 3 says.
 pub(crate) fn at_once<W: Write>(
     out: &mut W,
-    line: &str,
+    line: &[u8],
     m: &[u8],
     lent: Lent<'_>,
 ) -> io::Result<()> {

@@ -16,7 +16,7 @@ const MOST_MESSAGE: usize = 448;
 fn bytes_of<R: Files + AllocGlobal, W: Write>(
     rt: &R,
     out: &mut W,
-    line: &str,
+    line: &[u8],
     i: usize,
     most: usize,
 ) -> io::Result<Vec<u8>>
@@ -33,7 +33,7 @@ fn bytes_of<R: Files + AllocGlobal, W: Write>(
 pub(crate) fn table_of<R: Files + AllocGlobal, W: Write>(
     rt: &R,
     out: &mut W,
-    line: &str,
+    line: &[u8],
 ) -> io::Result<[u32; MOST_WORDS]> {
     Ok(file_words(&bytes_of(rt, out, line, 1, 4 * MOST_WORDS)?))
 }
@@ -42,7 +42,7 @@ pub(crate) fn table_of<R: Files + AllocGlobal, W: Write>(
 pub(crate) fn message_of<R: Files + AllocGlobal, W: Write>(
     rt: &R,
     out: &mut W,
-    line: &str,
+    line: &[u8],
 ) -> io::Result<Vec<u8>> {
     let mut message = bytes_of(rt, out, line, 12, MOST_MESSAGE)?;
     message.resize(number_at(line, 14).min(MOST_MESSAGE), 0)?;
@@ -50,7 +50,7 @@ pub(crate) fn message_of<R: Files + AllocGlobal, W: Write>(
 }
 
 // The masks of fields 4 to 11, one for each block.
-pub(crate) fn masks_of(line: &str) -> [u32; 8]
+pub(crate) fn masks_of(line: &[u8]) -> [u32; 8]
     ensures { result ≡ masks_of line.now }
 {
     array::from_fn(|k| word_field(line, 4 + k))

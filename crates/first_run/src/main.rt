@@ -6,7 +6,7 @@ mod ended;
 mod given;
 mod piece;
 
-use cases::{each_case, field, file_filling, file_text, from_field, front, number_at};
+use cases::{each_case, file_filling, file_text, from_field, front, number_at};
 use ended::{at_once, both_ways};
 use given::{masks_of, message_of, table_of};
 use loan::Lent;
@@ -23,7 +23,8 @@ const CONDITIONS: usize = 936;
 fn play<R: Files + AllocGlobal, W: Write>(
     rt: &R,
     out: &mut W,
-    line: &str,
+    letter: u8,
+    line: &[u8],
     conditions: &[u32],
 ) -> io::Result<()> {
     let message = message_of(rt, out, line)?;
@@ -34,21 +35,22 @@ fn play<R: Files + AllocGlobal, W: Write>(
         conditions,
         masks: &masks,
     };
-    write!(out, "{}: ", from_field(line, 16))?;
-    match field(line, 0) {
-        "o" => at_once(out, line, &message, lent),
+    out.write_all(from_field(line, 16))?;
+    write!(out, ": ")?;
+    match letter {
+        b'o' => at_once(out, line, &message, lent),
         _ => both_ways(out, line, &message, lent),
     }
 }
 
 fn main(rt: HostRuntime) -> io::Result<()> {
     let mut out = BufWriter::new(rt.alloc(), io::writer(&rt))?;
-    let text = file_text(&rt, &mut out, "cases.txt")?;
-    let file = file_filling(&rt, &mut out, "conditions.bin", 4 * CONDITIONS)?;
+    let text = file_text(&rt, &mut out, b"cases.txt")?;
+    let file = file_filling(&rt, &mut out, b"conditions.bin", 4 * CONDITIONS)?;
     let records = file_words(&file);
     let conditions = front(&records, CONDITIONS);
-    each_case(&text, &mut out, |out, line| {
-        play(&rt, out, line, conditions)
+    each_case(&text, &mut out, |out, letter, line| {
+        play(&rt, out, letter, line, conditions)
     })?;
     out.flush()
 }

@@ -23,7 +23,7 @@ pub struct Sizes {
 
 impl Sizes {
     // Those of fields 6 and 7.
-    pub(crate) fn of(line: &str) -> Sizes
+    pub(crate) fn of(line: &[u8]) -> Sizes
         ensures { result ≡ sizes_of line.now }
     {
         Sizes {

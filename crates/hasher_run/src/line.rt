@@ -50,9 +50,10 @@ fn turned_bits(bits: usize) -> usize
 }
 
 // A message under every setting of the flags, and by the one-shot form.
-fn modes<W: Write>(out: &mut W, line: &str, m: &[u8], lent: Lent<'_>) -> io::Result<()> {
+fn modes<W: Write>(out: &mut W, line: &[u8], m: &[u8], lent: Lent<'_>) -> io::Result<()> {
     let sizes = Sizes::of(line);
-    writeln!(out, "{}", from_field(line, 10))?;
+    out.write_all(from_field(line, 10))?;
+    writeln!(out)?;
     for bits in 0..16 {
         both_ways(out, flags_of_bits(turned_bits(bits)), m, sizes, lent)?;
     }
@@ -61,8 +62,8 @@ fn modes<W: Write>(out: &mut W, line: &str, m: &[u8], lent: Lent<'_>) -> io::Res
 }
 
 // The first bytes of field 8, as many as field 9 says.
-pub(crate) fn text<W: Write>(out: &mut W, line: &str, lent: Lent<'_>) -> io::Result<()> {
-    let m = front(field(line, 8).as_bytes(), number_at(line, 9));
+pub(crate) fn text<W: Write>(out: &mut W, line: &[u8], lent: Lent<'_>) -> io::Result<()> {
+    let m = front(field(line, 8), number_at(line, 9));
     modes(out, line, m, lent)
 }
 
@@ -70,7 +71,7 @@ pub(crate) fn text<W: Write>(out: &mut W, line: &str, lent: Lent<'_>) -> io::Res
 pub(crate) fn file<R: Files + AllocGlobal, W: Write>(
     rt: &R,
     out: &mut W,
-    line: &str,
+    line: &[u8],
     lent: Lent<'_>,
 ) -> io::Result<()> {
     let n = number_at(line, 9);
@@ -85,12 +86,13 @@ pub(crate) fn file<R: Files + AllocGlobal, W: Write>(
 pub(crate) fn long<R: AllocGlobal, W: Write>(
     rt: &R,
     out: &mut W,
-    line: &str,
+    line: &[u8],
     lent: Lent<'_>,
 ) -> io::Result<()> {
     let m = vec![in rt.alloc(); b'a'; 1_000_000]?;
     let flags = flags_of_bits(number_at(line, 5));
     let way = Way::of(number_at(line, 8));
-    write!(out, "{}: ", from_field(line, 10))?;
+    out.write_all(from_field(line, 10))?;
+    write!(out, ": ")?;
     answer(out, way, flags, &m, Sizes::of(line), lent)
 }

@@ -7,7 +7,7 @@ mod line;
 mod marked;
 mod nist;
 
-use cases::{each_case, field, file_filling, file_text, front, number_at, word_field};
+use cases::{each_case, file_filling, file_text, front, number_at, word_field};
 use loan::Lent;
 use std::alloc::AllocGlobal;
 use std::io;
@@ -24,7 +24,7 @@ const CONTROL: usize = 82;
 const SHORT: usize = 3445;
 
 // A case's masks: field 2 for every block, but for the block of field 3, which has field 4.
-fn masks_of(line: &str) -> [u32; MASKS] {
+fn masks_of(line: &[u8]) -> [u32; MASKS] {
     let mut masks = [word_field(line, 2); MASKS];
     if let Some(mask) = masks.get_mut(number_at(line, 3)) {
         *mask = word_field(line, 4);
@@ -36,16 +36,17 @@ fn masks_of(line: &str) -> [u32; MASKS] {
 fn call<R: Files + AllocGlobal, W: Write>(
     rt: &R,
     out: &mut W,
-    line: &str,
+    letter: u8,
+    line: &[u8],
     short: &[u8],
     lent: Lent<'_>,
 ) -> io::Result<()> {
-    match field(line, 0) {
-        "m" => line::text(out, line, lent),
-        "x" => line::file(rt, out, line, lent),
-        "l" => line::long(rt, out, line, lent),
-        "n" => nist::count(out, line, short, lent),
-        "s" => marked::stays(rt, out, line, lent),
+    match letter {
+        b'm' => line::text(out, line, lent),
+        b'x' => line::file(rt, out, line, lent),
+        b'l' => line::long(rt, out, line, lent),
+        b'n' => nist::count(out, line, short, lent),
+        b's' => marked::stays(rt, out, line, lent),
         _ => Ok(()),
     }
 }
@@ -54,7 +55,8 @@ fn call<R: Files + AllocGlobal, W: Write>(
 fn play<R: Files + AllocGlobal, W: Write>(
     rt: &R,
     out: &mut W,
-    line: &str,
+    letter: u8,
+    line: &[u8],
     short: &[u8],
     real: &[u32; MOST_WORDS],
     control: &[u32],
@@ -69,20 +71,20 @@ fn play<R: Files + AllocGlobal, W: Write>(
         conditions: &[],
         masks: &masks,
     };
-    call(rt, out, line, short, lent)
+    call(rt, out, letter, line, short, lent)
 }
 
 fn main(rt: HostRuntime) -> io::Result<()> {
     let mut out = BufWriter::new(rt.alloc(), io::writer(&rt))?;
-    let text = file_text(&rt, &mut out, "cases.txt")?;
-    let short = file_filling(&rt, &mut out, "short-messages.bin", SHORT)?;
-    let bytes = file_filling(&rt, &mut out, "real-table.bin", 4 * MOST_WORDS)?;
-    let record = file_filling(&rt, &mut out, "control-table.bin", 4 * CONTROL)?;
+    let text = file_text(&rt, &mut out, b"cases.txt")?;
+    let short = file_filling(&rt, &mut out, b"short-messages.bin", SHORT)?;
+    let bytes = file_filling(&rt, &mut out, b"real-table.bin", 4 * MOST_WORDS)?;
+    let record = file_filling(&rt, &mut out, b"control-table.bin", 4 * CONTROL)?;
     let real = file_words(&bytes);
     let words = file_words(&record);
     let control = front(&words, CONTROL);
-    each_case(&text, &mut out, |out, line| {
-        play(&rt, out, line, &short, &real, control)
+    each_case(&text, &mut out, |out, letter, line| {
+        play(&rt, out, letter, line, &short, &real, control)
     })?;
     out.flush()
 }

@@ -14,7 +14,7 @@ use std::rt::Files;
 fn marked<R: Files + AllocGlobal, W: Write>(
     rt: &R,
     out: &mut W,
-    line: &str,
+    line: &[u8],
     lent: Lent<'_>,
 ) -> io::Result<Hasher> {
     let message = file_filling(rt, out, field(line, 8), MOST_FILE)?;
@@ -26,13 +26,14 @@ fn marked<R: Files + AllocGlobal, W: Write>(
 pub(crate) fn stays<R: Files + AllocGlobal, W: Write>(
     rt: &R,
     out: &mut W,
-    line: &str,
+    line: &[u8],
     lent: Lent<'_>,
 ) -> io::Result<()> {
     let sizes = Sizes::of(line);
     let clean = [0u8; 150];
     let first = marked(rt, out, line, lent)?;
-    writeln!(out, "{}{}", from_field(line, 10), Said(first))?;
+    out.write_all(from_field(line, 10))?;
+    writeln!(out, "{}", Said(first))?;
     let second = marked(rt, out, line, lent)?;
     let later = in_pieces(second, &clean, sizes, lent);
     writeln!(out, "  two blocks on: {}", Said(later))?;

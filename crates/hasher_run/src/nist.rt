@@ -31,7 +31,7 @@ fn first_of(file: &[u8]) -> Option<Published<'_>> {
 
 // How many of the 65 messages give their digest, one after the other by one hasher: the way of field 8 under the flags of
 // field 5.
-fn right(line: &str, file: &[u8], lent: Lent<'_>) -> usize {
+fn right(line: &[u8], file: &[u8], lent: Lent<'_>) -> usize {
     let way = Way::of(number_at(line, 8));
     let sizes = Sizes::of(line);
     let mut h = Hasher::new(flags_of_bits(number_at(line, 5)));
@@ -56,10 +56,11 @@ fn right(line: &str, file: &[u8], lent: Lent<'_>) -> usize {
 
 pub(crate) fn count<W: Write>(
     out: &mut W,
-    line: &str,
+    line: &[u8],
     file: &[u8],
     lent: Lent<'_>,
 ) -> io::Result<()> {
     let count = right(line, file, lent);
-    writeln!(out, "{}: {count} of {MESSAGES}", from_field(line, 10))
+    out.write_all(from_field(line, 10))?;
+    writeln!(out, ": {count} of {MESSAGES}")
 }

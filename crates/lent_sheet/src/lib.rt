@@ -9,7 +9,8 @@ use answers::BROKEN_AGREEMENT;
 use comparison::{Comparison, compare};
 use layout::verdict_from;
 use refusal::{Refusal, number_of};
-use sheet::{lookup, lookup_refusal, part_from};
+use sheet::{lookup_refusal, part_from};
+use verdict::DIGEST_SIZE;
 
 // The number that stands for a comparison's answer; 0 is left for none.
 fn comparison_number(comparison: Comparison) -> u64
@@ -37,15 +38,17 @@ fn leave_compared(answer: &mut [u64], compared: Result<Comparison, Refusal>) -> 
 }
 
 // A barcode looked up. An exported function can hand back no part of a slice: it says where the part lies.
-#[tactic(auto, unfolding(crate::specs::LentSheet::lookup_call))]
+#[tactic(auto, using(sheet::proofs::Parts::fits, sheet::proofs::Parts::part_length), unfolding(crate::specs::LentSheet::lookup_call))]
 pub fn lookup_lent(sheet: &[u8], code: &[u8], part: &mut [u64]) -> u32
     ensures { left result (part.new ∷ []) ≡ lookup_call sheet.now code.now part.old }
 {
     if part.len() != 2 {
         return BROKEN_AGREEMENT;
     }
-    let found = lookup(sheet, code);
-    part.copy_from_slice(&[part_from(sheet, code) as u64, found.len() as u64]);
+    // Where the part begins tells its length, so that the sheet is searched once.
+    let from = part_from(sheet, code);
+    let length = DIGEST_SIZE.min(sheet.len() - from);
+    part.copy_from_slice(&[from as u64, length as u64]);
     number_of(lookup_refusal(sheet, code))
 }
 

@@ -1,10 +1,12 @@
 -- The line that the program writes, and what it says.
-use Rattle.std.specs.Prelude.{List, [], ◌∷◌, ◌++◌, ℕ, ◌+◌, ◌-◌, ◌/◌, ◌%◌, ltb, replicate, Result, Ok, Err}
+use Rattle.std.specs.Prelude.{List, [], ◌∷◌, ◌++◌, ℕ, ◌+◌, ◌-◌, ◌/◌, ◌%◌, ltb, length, replicate, Result, Ok, Err}
 use Rattle.word.specs.Choice.{pick}
 use Rattle.refusal.specs.Refusal.{number}
 use Rattle.refusal.specs.declared.Refusal.{Refusal}
 use Rattle.verdict.specs.declared.Verdict.{Verdict as AnyVerdict}
 use Rattle.verdict.specs.Verdict.{digest_size, verdict_word}
+use Rattle.std.proofs.Math.Seq.{paste}
+use Rattle.line.specs.declared.Line.{Line}
 use Rattle.line.specs.declared.Said.{Said}
 use Rattle.line.specs.declared.Failure.{Failure}
 use Rattle.line.specs.declared.Failure.TheVariants.{Refused as RefusedBy, Unread as NotRead}
@@ -94,3 +96,11 @@ line_of s digest = ended (text_of s digest)
 -- the line of a reply
 abbrev pub line_for : Reply → List ℕ
 line_for a = line_of a.saying a.digest
+
+-- a line of 64 bytes, of which the first are given and the others zero
+abbrev pub line_with : List ℕ → Line
+line_with xs = record { bytes = xs ++ replicate (64 - length xs) 0; len = length xs }
+
+-- a line with more bytes after it
+abbrev pub written : Line → List ℕ → Line
+written l s = record { bytes = paste l.bytes l.len s (length s); len = l.len + length s }

@@ -1,20 +1,45 @@
 // The line that the program writes.
 #![tactic(auto)]
 
-ghost use Rattle.std.specs.Prelude.{◌≡◌, [], ◌++◌, ◌+◌, ◌≤◌, ◌<◌, length};
+ghost use Rattle.std.specs.Prelude.{◌≡◌, [], ◌+◌, ◌≤◌, ◌<◌, length, take};
 ghost use Rattle.verdict.specs.Verdict.{verdict_word};
-ghost use Rattle.arrayvec.specs.ArrayVec.{array_vec_len};
-ghost use Rattle.line.specs.Line.{hex_digit, hex_of, decimal_of, verdict_text, refused_text, failure_number, reply_of, line_for};
+ghost use Rattle.line.specs.Line.{hex_digit, hex_of, decimal_of, verdict_text, refused_text, failure_number, reply_of, line_for, line_with, written};
 
-use arrayvec::ArrayVec;
+use octets::store;
 use refusal::Refusal;
 use verdict::{DIGEST_SIZE, Verdict};
 
 // The number of what could not be taken in.
 const UNREAD: u32 = 16;
 
-// A line has 64 bytes at most, and no heap.
-pub type Line = ArrayVec<u8, 64>;
+// Bytes in the longest line that there is room for.
+const MOST_LINE: usize = 64;
+
+// A line: its first `len` bytes, with zeros behind them. It has no heap.
+#[derive(Clone, Copy, Debug, PartialEq, Eq)]
+pub struct Line {
+    pub bytes: [u8; MOST_LINE],
+    pub len: usize,
+}
+
+impl Line {
+    // A line of no bytes.
+    fn new() -> Line
+        ensures { result ≡ line_with [] }
+    {
+        Line {
+            bytes: [0u8; MOST_LINE],
+            len: 0,
+        }
+    }
+
+    // Its bytes.
+    pub fn as_slice(&self) -> &[u8]
+        ensures { result.now ≡ take self.now.len self.now.bytes }
+    {
+        &self.bytes[..self.len.min(MOST_LINE)]
+    }
+}
 
 // What the program says of a message that it read to its end.
 #[derive(Clone, Copy, Debug, PartialEq, Eq)]
@@ -63,33 +88,34 @@ fn hex_digit(n: u8) -> u8
 
 // More bytes at a line's end.
 fn put(line: &mut Line, bytes: &[u8])
-    requires { array_vec_len line.old + length bytes.now ≤ 64 }
-    ensures { line.new.items ≡ line.old.items ++ bytes.now }
+    requires { line.old.len + length bytes.now ≤ 64 }
+    ensures { line.new ≡ written line.old bytes.now }
 {
-    line.try_extend_from_slice(bytes).unwrap();
+    store(&mut line.bytes, line.len, bytes, bytes.len());
+    line.len += bytes.len();
 }
 
 // Two digits for each byte of a digest.
 fn put_hex(line: &mut Line, digest: [u8; DIGEST_SIZE])
-    requires { array_vec_len line.old ≤ 24 }
-    ensures { line.new.items ≡ line.old.items ++ hex_of digest }
+    requires { line.old.len ≤ 24 }
+    ensures { line.new ≡ written line.old (hex_of digest) }
 {
     for byte in digest {
-        line.push(hex_digit(byte / 16));
-        line.push(hex_digit(byte % 16));
+        put(line, &[hex_digit(byte / 16), hex_digit(byte % 16)]);
     }
 }
 
 // A number below 100: one digit or two, by hand, as a line takes bytes and no text.
 fn put_decimal(line: &mut Line, n: u32)
-    requires room { array_vec_len line.old ≤ 62 }
+    requires room { line.old.len ≤ 62 }
     requires small { n < 100 }
-    ensures { line.new.items ≡ line.old.items ++ decimal_of n }
+    ensures { line.new ≡ written line.old (decimal_of n) }
 {
-    if n >= 10 {
-        line.push(b'0' + (n / 10) as u8);
+    if n < 10 {
+        put(line, &[b'0' + n as u8]);
+    } else {
+        put(line, &[b'0' + (n / 10) as u8, b'0' + (n % 10) as u8]);
     }
-    line.push(b'0' + (n % 10) as u8);
 }
 
 // The word of a verdict.
@@ -104,11 +130,10 @@ fn word(verdict: Verdict) -> &'static [u8]
 }
 
 // The text of a verdict, in an empty line.
-#[tactic(auto, using(crate::proofs::Digits::hex_length), unfolding(crate::specs::Line::verdict_text))]
 fn put_said(line: &mut Line, said: Said)
-    requires { line.old.items ≡ [] }
-    ensures text { line.new.items ≡ verdict_text (verdict_word said.verdict) said.digest }
-    ensures short { array_vec_len line.new ≤ 50 }
+    requires { line.old ≡ line_with [] }
+    ensures text { line.new ≡ line_with (verdict_text (verdict_word said.verdict) said.digest) }
+    ensures short { line.new.len ≤ 50 }
 {
     put(line, word(said.verdict));
     put(line, b" ");
@@ -116,12 +141,11 @@ fn put_said(line: &mut Line, said: Said)
 }
 
 // The text of a number that is refused, in an empty line.
-#[tactic(auto, unfolding(crate::specs::Line::refused_text))]
 fn put_refused(line: &mut Line, n: u32)
-    requires empty { line.old.items ≡ [] }
+    requires empty { line.old ≡ line_with [] }
     requires small { n < 100 }
-    ensures text { line.new.items ≡ refused_text n }
-    ensures short { array_vec_len line.new ≤ 50 }
+    ensures text { line.new ≡ line_with (refused_text n) }
+    ensures short { line.new.len ≤ 50 }
 {
     put(line, b"refused ");
     put_decimal(line, n);
@@ -129,7 +153,7 @@ fn put_refused(line: &mut Line, n: u32)
 
 // What the program writes.
 pub fn line_of(reply: Result<Said, Failure>) -> Line
-    ensures { result.items ≡ line_for (reply_of reply) }
+    ensures { result ≡ line_with (line_for (reply_of reply)) }
 {
     let mut line = Line::new();
     match reply {

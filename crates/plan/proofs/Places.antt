@@ -8,12 +8,14 @@ use borrow.Author.Tests.{lt-ltb}
 use lib.Dec.{ltb}
 use lib.ListN.{length, length-append}
 use Rattle.word.specs.Choice.{pick}
-use Rattle.arguments.specs.Arguments.{is_table}
+use Rattle.arguments.specs.Arguments.{is_table, kind_of}
 use Rattle.arguments.specs.declared.ArgumentKind.{ArgumentKind}
 use Rattle.arguments.specs.declared.ArgumentKind.TheVariants.{Table, Raw, Unknown}
-use Rattle.std.specs.Prelude.{Some, None, Ok}
+use Rattle.std.specs.declared.env.FillError.{FillError}
+use Rattle.std.specs.declared.env.FillError.TheVariants.{NotPresent, TooLong}
+use Rattle.std.specs.Prelude.{pos, Some, None, Ok, Err, IfSome}
 use Rattle.arguments.proofs.Settings.{setting-none, setting-more}
-use Rattle.plan.specs.Given.{Argument, kind_read, kinds_read, placed_at, table_place, asked_with, asked_of, plan_of, nothing_planned, plan_with, Given, Asks}
+use Rattle.plan.specs.Given.{Argument, argument_of, error_number, kind_read, kind_given, kinds_read, placed_at, table_place, asked_with, asked_of, plan_of, nothing_planned, plan_with, Given, Asks}
 use Rattle.plan.specs.declared.Plan.{Plan}
 
 placed_by : (b : Bool) (t m x : ℕ)
@@ -84,3 +86,11 @@ module _ {p : Plan} {i : ℕ} (f : AskedSoFar p i) {k : ArgumentKind} (g : Given
         asked = sym e ∙ told;
         next = rw (kinds-more f.arguments g.argument, f.next) (omega (arith, length-append (kinds_read f.arguments) (kind_read g.argument ∷ [])));
       }
+
+-- what fetching an argument answered gives the kind of an argument, if any
+pub given-bytes : (bytes : List ℕ) → Given (kind_of bytes)
+given-bytes bytes = record { argument = argument_of (pos 0) bytes; read = refl }
+
+pub given-error : (e : FillError) → IfSome (kind_given (Err e)) Given
+given-error NotPresent = tt
+given-error TooLong = record { argument = argument_of (error_number TooLong) []; read = refl }

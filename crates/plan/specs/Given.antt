@@ -1,5 +1,5 @@
 -- What the program is given: its arguments, by what fetching them answered.
-use Rattle.std.specs.Prelude.{◌≡◌, Bool, true, false, not, List, [], ◌∷◌, map, ℕ, suc, ltb, eqb, ℤ, pos, negsuc, Some, None, is_some, Result, Ok, Err}
+use Rattle.std.specs.Prelude.{◌≡◌, Bool, true, false, not, List, [], ◌∷◌, map, ℕ, suc, ltb, eqb, ℤ, pos, negsuc, Option, Some, None, is_some, Result, Ok, Err}
 use Rattle.std.specs.Borrow.{Bor}
 use Rattle.std.specs.declared.env.FillError.{FillError}
 use Rattle.std.specs.declared.env.FillError.TheVariants.{NotPresent, TooLong}
@@ -40,6 +40,12 @@ is_zero (negsuc k) = false
 -- its kind: none of ours where it could not be fetched
 abbrev pub kind_read : Argument → ArgumentKind
 kind_read a = pick (is_zero a.error) (kind_of a.bytes) Unknown
+
+-- the kind by what fetching it answered: none where there is no such argument, and none of ours where it is too long
+abbrev pub kind_given : Result (Bor (List ℕ)) FillError → Option ArgumentKind
+kind_given (Ok bytes) = Some (kind_of bytes.now)
+kind_given (Err NotPresent) = None
+kind_given (Err TooLong) = Some Unknown
 
 -- the kinds of all arguments
 abbrev pub kinds_read : List Argument → List ArgumentKind

@@ -2,7 +2,7 @@
 #![tactic(auto)]
 
 ghost use Rattle.std.specs.Prelude.{◌≡◌};
-ghost use Rattle.plan.specs.Given.{argument_given, kind_read, nothing_planned, plan_with, plan_flags};
+ghost use Rattle.plan.specs.Given.{argument_given, kind_read, kind_given, nothing_planned, plan_with, plan_flags};
 
 use arguments::{ArgumentKind, kind_of};
 use flags::{Flags, Masks};
@@ -26,6 +26,16 @@ pub fn kind_read(arg: Result<&[u8], FillError>) -> ArgumentKind
     match arg {
         Ok(bytes) => kind_of(bytes),
         Err(_) => ArgumentKind::Unknown,
+    }
+}
+
+// The same where there may be no such argument: there is none only where fetching it says so.
+pub fn kind_given(arg: Result<&[u8], FillError>) -> Option<ArgumentKind>
+    ensures { result ≡ kind_given arg.entry }
+{
+    match arg {
+        Err(FillError::NotPresent) => None,
+        fetched => Some(kind_read(fetched)),
     }
 }
 

@@ -8,7 +8,7 @@ use borrow.Author.Tests.{eq-eqb, ne_eqb, eqb-false}
 use lib.IntN.{ℤ, pos, negsuc}
 use lib.ListN.{length, take}
 use lib.Seq.{length-take-le}
-use Rattle.std.specs.Prelude.{Result, Ok, Err, is_ok, Option, Some, None}
+use Rattle.std.specs.Prelude.{min, Result, Ok, Err, is_ok, Option, Some, None}
 use Rattle.line.specs.declared.Failure.{Failure}
 use Rattle.line.specs.declared.Failure.TheVariants.{Refused, Unread}
 use Rattle.refusal.specs.Refusal.{Checked}
@@ -128,39 +128,38 @@ module _ (u : UpdateAccount) where
 
 -- what the program has after a read, by the read's answer
 module _ (h : Hasher) (table : List ℕ) (buffer : List ℕ) where
-  pub take-end : read_taken (intake_with h table (read_of (pos 0) buffer)) ≡ Ok None
-  take-end =
-      let r = read_of (pos 0) buffer in
-      let none : gave_none r ≡ true = eq-eqb (size_read r) 0 (omega arith) in
-      ap read_taken (with-end h table r none)
-
   pub take-failed : read_taken (intake_with h table (read_of (negsuc 0) buffer)) ≡ Err Unread
   take-failed = ap read_taken (with-end h table (read_of (negsuc 0) buffer) refl)
 
-  module _ (n : ℕ) (some : 0 < n) (fits : n ≤ length buffer) where
-    abbrev update : UpdateAccount
-    update = updated h (take n buffer) (loan_of table [] [])
-
+  -- n of the k bytes that it answered are in the buffer
+  module _ (k n : ℕ) (within : n ≡ min k (length buffer)) where
     abbrev read : Read
-    read = read_of (pos n) buffer
+    read = read_of (pos k) buffer
 
     size : size_read read ≡ n
-    size = omega arith
+    size = omega (arith, within)
 
-    gave : gave_none read ≡ false
-    gave = ne_eqb (size_read read) 0 (λ e. omega (arith, size))
+    pub take-end : n ≡ 0 → read_taken (intake_with h table read) ≡ Ok None
+    take-end z = ap read_taken (with-end h table read (eq-eqb (size_read read) 0 (size ∙ z)))
 
-    read-is : bytes_read read ≡ take n buffer
-    read-is = rw size
+    module _ (some : 0 < n) where
+      abbrev update : UpdateAccount
+      update = updated h (take n buffer) (loan_of table [] [])
 
-    with-update : intake_with h table read ≡ intake_by update
-    with-update = with-bytes h table read gave ∙ ap (λ (bytes : List ℕ). intake_by (updated h bytes (loan_of table [] []))) read-is
+      gave : gave_none read ≡ false
+      gave = ne_eqb (size_read read) 0 (λ e. omega (arith, size))
 
-    pub take-refused : {q : Refusal} → hasher_handed update ≡ Err q → read_taken (intake_with h table read) ≡ Err (Refused q)
-    take-refused e = let k = refused_by update e in ap read_taken with-update ∙ rw k
+      read-is : bytes_read read ≡ take n buffer
+      read-is = rw size
 
-    pub take-bytes : {g : Hasher} → hasher_handed update ≡ Ok g → read_taken (intake_with h table read) ≡ Ok (Some g)
-    take-bytes e = let k = answered update e in ap read_taken with-update ∙ rw (k.0, k.1)
+      with-update : intake_with h table read ≡ intake_by update
+      with-update = with-bytes h table read gave ∙ ap (λ (bytes : List ℕ). intake_by (updated h bytes (loan_of table [] []))) read-is
+
+      pub take-refused : {q : Refusal} → hasher_handed update ≡ Err q → read_taken (intake_with h table read) ≡ Err (Refused q)
+      take-refused e = let k = refused_by update e in ap read_taken with-update ∙ rw k
+
+      pub take-bytes : {g : Hasher} → hasher_handed update ≡ Ok g → read_taken (intake_with h table read) ≡ Ok (Some g)
+      take-bytes e = let k = answered update e in ap read_taken with-update ∙ rw (k.0, k.1)
 
 -- a read gives no more bytes than the buffer has
 clamped-fits : (z : ℤ) (n : ℕ) → clamp_len z n ≤ n

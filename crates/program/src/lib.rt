@@ -2,7 +2,6 @@
 #![tactic(auto)]
 
 ghost use Rattle.std.specs.Prelude.{◌≡◌, []};
-ghost use Rattle.std.specs.Io.{ReadsAtMost};
 ghost use Rattle.loan.specs.Loan.{loan_of};
 ghost use Rattle.finish.specs.Finish.{finished};
 ghost use Rattle.reads.specs.Reads.{answer_of, read_of};
@@ -17,19 +16,20 @@ use std::io;
 use update::update;
 
 // The hasher with the bytes of one read more, by its answer and the buffer after it: none at the message's end, and an error
-// is no end.
+// is no end. Of an answer above what the buffer holds, all of the buffer is taken.
 pub fn take(
     h: Hasher,
     table: &[u32],
     got: io::Result<usize>,
     buf: &[u8],
 ) -> Result<Option<Hasher>, Failure>
-    requires { ReadsAtMost got buf.now }
     ensures { result ≡ read_taken (intake_with h table.now (read_of (answer_of got) buf.now)) }
 {
     match got {
-        Ok(0) => Ok(None),
-        Ok(n) => Ok(Some(update(h, &buf[..n], Lent::of_table(table))?)),
+        Ok(n) => match n.min(buf.len()) {
+            0 => Ok(None),
+            n => Ok(Some(update(h, &buf[..n], Lent::of_table(table))?)),
+        },
         Err(_) => Err(Failure::Unread),
     }
 }

@@ -3,7 +3,8 @@
 // and messages.
 #![tactic(auto)]
 
-ghost use Rattle.std.specs.Prelude.{◌≡◌, true, IsOk, IsUtf8, IfSome, is_ok};
+ghost use Rattle.std.specs.Prelude.{◌≡◌, ◌<◌, true, IsOk, IsUtf8, IfOk, IfSome, is_ok, length, take};
+ghost use Rattle.std.specs.Io.KnownBytes.{Consumes, IsAtEnd};
 ghost use Rattle.table_file.specs.File.{table_of, file_fault};
 ghost use Rattle.line.specs.Line.{reply_of};
 ghost use Rattle.program.specs.Intakes.{TookIn};
@@ -15,10 +16,9 @@ use arguments::{ArgumentKind, file_name};
 use flags::Flags;
 use hasher::Hasher;
 use line::{Failure, Said, line_of};
-use plan::{Plan, kind_read};
+use plan::{Plan, kind_given};
 use program::{said_of, take};
 use reads::{file_room, given, table_check};
-use std::env::FillError;
 use std::io::Read;
 use std::rt::{Env, Files};
 use std::{fs, io};
@@ -42,9 +42,8 @@ fn argument<R: Env>(rt: &R, i: usize) -> Option<ArgumentKind>
 {
     let mut buf = [0u8; MOST_ARGUMENT];
     match rt.arg(i, &mut buf) {
-        Ok(n) => Some(kind_read(Ok(&buf[..n]))),
-        Err(FillError::TooLong) => Some(kind_read(Err(FillError::TooLong))),
-        Err(FillError::NotPresent) => None,
+        Ok(n) => kind_given(Ok(&buf[..n])),
+        Err(e) => kind_given(Err(e)),
     }
 }
 
@@ -63,9 +62,12 @@ fn arguments<R: Env>(rt: &R) -> Result<Plan, Failure>
 }
 
 // Reads until the file ends or the buffer is full, and answers how many bytes there are. The loop is written out, as what
-// std's `read_to_end` promises after an error is too little.
+// std's `read_to_end` promises after an error is too little. Where it is known what a file still has, these are its next bytes,
+// and fewer than fill the buffer only where none are left: a read that fails is no end.
 fn read_file<F: Read>(file: &mut F, bytes: &mut [u8]) -> io::Result<usize>
-    ensures { Fills bytes.new result }
+    ensures fills { Fills bytes.new result }
+    ensures consumed { IfOk result (λ n. Consumes (F.remaining file.old) (F.remaining file.new) (take n bytes.new)) }
+    ensures ended { IfOk result (λ n. n < length bytes.new → IsAtEnd (F.remaining file.new)) }
 {
     let mut done = 0;
     while done < bytes.len() {

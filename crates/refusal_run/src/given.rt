@@ -18,7 +18,7 @@ fn pending(last: u32) -> [u8; 64]
 
 // A case gives the fields that can be ill formed: fill, blocks, last pending byte, flags, mark and where it was first made.
 #[tactic(auto, unfolding(crate::specs::Given::given_hasher))]
-pub(crate) fn given_hasher(line: &str) -> Hasher
+pub(crate) fn given_hasher(line: &[u8]) -> Hasher
     ensures { result ≡ given_hasher line.now }
 {
     Hasher {
@@ -36,8 +36,8 @@ pub(crate) fn given_hasher(line: &str) -> Hasher
 }
 
 // The first bytes of field 14.
-pub(crate) fn given_message(line: &str) -> &[u8]
+pub(crate) fn given_message(line: &[u8]) -> &[u8]
     ensures { result.now ≡ given_message line.now }
 {
-    front(field(line, 14).as_bytes(), number_at(line, 15))
+    front(field(line, 14), number_at(line, 15))
 }

@@ -12,7 +12,7 @@ use std::io;
 use std::io::Write;
 
 // The masks select mask number 31 alone; the conditions, if there are any, drop mask number 0.
-fn one<W: Write>(out: &mut W, line: &str) -> io::Result<()> {
+fn one<W: Write>(out: &mut W, letter: u8, line: &[u8]) -> io::Result<()> {
     let table = records_of(line);
     let conditions = conditions_of(line, 17);
     let masks = [0x80000000u32; 3];
@@ -21,9 +21,9 @@ fn one<W: Write>(out: &mut W, line: &str) -> io::Result<()> {
         conditions: front(&conditions, number_at(line, 16)),
         masks: front(&masks, number_at(line, 6)),
     };
-    call(out, line, lent)
+    call(out, letter, line, lent)
 }
 
 fn main(rt: HostRuntime) -> io::Result<()> {
-    play_cases(&rt, "cases.txt", one)
+    play_cases(&rt, b"cases.txt", one)
 }

@@ -1,12 +1,12 @@
 -- What the fields of a line are read as.
-use Rattle.std.specs.Prelude.{Bool, ◌&&◌, List, [], ◌∷◌, ℕ, ◌+◌, ◌/◌, ◌%◌, eqb, take, Option, Some, None, option_map, option_and_then}
+use Rattle.std.specs.Prelude.{Bool, ◌&&◌, List, [], ◌∷◌, ℕ, ◌+◌, ◌/◌, ◌%◌, eqb, take, Option, Some, None, unwrap_or, option_map, option_and_then}
 use Rattle.std.specs.Option.{option_eq}
 use Rattle.word.specs.Choice.{pick}
 use Rattle.refusal.specs.Refusal.{number, place}
 use Rattle.refusal.specs.declared.Refusal.{Refusal}
 use Rattle.table_file.specs.File.{most_words, file_words}
 use Rattle.cases.specs.Lines.{field_of}
-use Rattle.replay_line.specs.Hex.{run_bytes, run_of, small_of}
+use Rattle.replay_line.specs.Hex.{run_bytes, run_of, no_number, small_of}
 use Rattle.replay_line.specs.declared.hex.Run.{Run}
 use Rattle.replay_line.specs.declared.fields.Words.{Words}
 
@@ -56,7 +56,7 @@ word_at line i = option_and_then (λ w. one_of_list (word_list w)) (hex_words li
 abbrev pub is_mark : List ℕ → ℕ → Bool → Bool
 is_mark line i mark = option_eq eqb (small_at line i) (Some (pick mark 1 0))
 
--- whether fields i and i + 1 are a refusal's number and its place
+-- whether fields i and i + 1 are a refusal's number and its place, which is no_number where it can't be read
 abbrev pub is_refusal : List ℕ → ℕ → Refusal → Bool
 is_refusal line i r =
-    option_eq eqb (small_at line i) (Some (number r)) && option_eq eqb (small_at line (i + 1)) (Some (place r))
+    option_eq eqb (small_at line i) (Some (number r)) && eqb (unwrap_or (small_at line (i + 1)) no_number) (place r)

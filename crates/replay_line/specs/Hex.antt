@@ -48,6 +48,10 @@ run_of s =
     pick (is_run s) (Some (record { len = length s / 2; bytes = list_of (byte_of s) most_file_bytes }))
     (pick (is_dash s) (Some empty_run) None)
 
+-- what a number that can't be read is read as, where it is compared with one
+abbrev pub no_number : ℕ
+no_number = 256
+
 -- the number of one or two digits; nothing else can be read
 unfoldable pub small_of : List ℕ → Option ℕ
 small_of s =

@@ -2,7 +2,7 @@
 ghost use Rattle.std.specs.Prelude.{◌≡◌, ◌<◌};
 ghost use Rattle.replay_line.specs.Fields.{run_at, small_at, word_list, words_in, hex_words, five_at, word_at, is_mark, is_refusal};
 
-use crate::hex::{Run, run_of, small_of};
+use crate::hex::{NO_NUMBER, Run, run_of, small_of};
 use cases::{field, front};
 use refusal::Refusal;
 use table_file::{MOST_WORDS, file_words};
@@ -23,17 +23,17 @@ impl Words {
 }
 
 // The bytes of a field.
-pub fn run_at(line: &str, i: usize) -> Option<Run>
+pub fn run_at(line: &[u8], i: usize) -> Option<Run>
     ensures { result ≡ run_at line.now i }
 {
-    run_of(field(line, i).as_bytes())
+    run_of(field(line, i))
 }
 
 // The number that a field is.
-pub fn small_at(line: &str, i: usize) -> Option<usize>
+pub fn small_at(line: &[u8], i: usize) -> Option<usize>
     ensures { result ≡ small_at line.now i }
 {
-    small_of(field(line, i).as_bytes())
+    small_of(field(line, i))
 }
 
 // The words of a run, if its bytes are whole words.
@@ -51,7 +51,7 @@ fn words_in(run: Run) -> Option<Words>
 }
 
 // The words of a field, the high byte first.
-pub fn hex_words(line: &str, i: usize) -> Option<Words>
+pub fn hex_words(line: &[u8], i: usize) -> Option<Words>
     ensures { result ≡ hex_words line.now i }
 {
     words_in(run_at(line, i)?)
@@ -59,7 +59,7 @@ pub fn hex_words(line: &str, i: usize) -> Option<Words>
 
 // A field's five words, where it has five.
 #[tactic(auto, unfolding(crate::specs::Fields::five_at))]
-pub fn five_at(line: &str, i: usize) -> Option<[u32; 5]>
+pub fn five_at(line: &[u8], i: usize) -> Option<[u32; 5]>
     ensures { result ≡ five_at line.now i }
 {
     match hex_words(line, i)?.as_slice() {
@@ -70,7 +70,7 @@ pub fn five_at(line: &str, i: usize) -> Option<[u32; 5]>
 
 // A field's one word, where it has one.
 #[tactic(auto, unfolding(crate::specs::Fields::word_at))]
-pub fn word_at(line: &str, i: usize) -> Option<u32>
+pub fn word_at(line: &[u8], i: usize) -> Option<u32>
     ensures { result ≡ word_at line.now i }
 {
     match hex_words(line, i)?.as_slice() {
@@ -80,17 +80,17 @@ pub fn word_at(line: &str, i: usize) -> Option<u32>
 }
 
 // Whether a field is 1 for a mark and 0 for none.
-pub fn is_mark(line: &str, i: usize, mark: bool) -> bool
+pub fn is_mark(line: &[u8], i: usize, mark: bool) -> bool
     ensures { result ≡ is_mark line.now i mark }
 {
     small_at(line, i) == Some(usize::from(mark))
 }
 
-// Whether two fields are a refusal's number and its place.
-pub fn is_refusal(line: &str, i: usize, refusal: Refusal) -> bool
+// Whether two fields are a refusal's number and its place, which is read as NO_NUMBER where it can't be read.
+pub fn is_refusal(line: &[u8], i: usize, refusal: Refusal) -> bool
     requires { i < 16 }
     ensures { result ≡ is_refusal line.now i refusal }
 {
     small_at(line, i) == Some(refusal.number() as usize)
-        && small_at(line, i + 1) == Some(refusal.place())
+        && small_at(line, i + 1).unwrap_or(NO_NUMBER) == refusal.place()
 }

@@ -11,6 +11,9 @@ use table_file::MOST_WORDS;
 // Bytes in the longest run, a table of 32 records.
 pub const RUN_BYTES: usize = 4 * MOST_WORDS;
 
+// What a number that can't be read is read as, where it is compared with one: more than any of two digits.
+pub const NO_NUMBER: usize = 256;
+
 // Bytes read from a field: the first `len` of a room for the longest run, as no library crate here takes memory from the heap.
 #[derive(Clone, Copy)]
 pub struct Run {

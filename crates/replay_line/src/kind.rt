@@ -76,25 +76,25 @@ impl Kind {
 }
 
 // Whether a line says that what it has is refused: it begins with a capital.
-pub fn is_refused(line: &str) -> bool
+pub fn is_refused(line: &[u8]) -> bool
     ensures { result ≡ is_refused line.now }
 {
-    matches!(line.as_bytes(), [b'A'..=b'Z', ..])
+    matches!(line, [b'A'..=b'Z', ..])
 }
 
 // Whether a line's first byte is all of it, or a space stands after it.
-fn is_alone(line: &str) -> bool
+fn is_alone(line: &[u8]) -> bool
     ensures { result ≡ is_alone line.now }
 {
-    !matches!(line.as_bytes(), [_, after, ..] if *after != b' ')
+    !matches!(line, [_, after, ..] if *after != b' ')
 }
 
 // A line's kind by its letter and its number of fields; none where it can't be read.
 #[tactic(auto, unfolding(crate::specs::Kinds::line_kind))]
-pub fn line_kind(line: &str) -> Option<Kind>
+pub fn line_kind(line: &[u8]) -> Option<Kind>
     ensures { result ≡ line_kind line.now }
 {
-    match line.as_bytes() {
+    match line {
         [] => None,
         [b'#', ..] => Some(Kind::Comment),
         [letter, ..] if is_alone(line) => {

@@ -8,12 +8,13 @@ use Rattle.verdict.specs.declared.Verdict.{Verdict}
 use Rattle.verdict.specs.declared.Verdict.TheVariants.{Ok as Unmarked, Mitigated, Collision}
 use Rattle.detect.specs.declared.OneBlock.{OneBlock}
 use Rattle.hasher.specs.declared.Hasher.{Hasher}
+use Rattle.replay_line.specs.Hex.{no_number}
 use Rattle.replay_line.specs.Fields.{bytes_at, small_at, five_at, is_mark, is_refusal}
 use Rattle.replay_line.specs.Kinds.{is_refused}
 
--- whether field i is this number
+-- whether field i is this number; one that can't be read is read as no_number
 abbrev pub is_small : List ℕ → ℕ → ℕ → Bool
-is_small line i n = option_eq eqb (small_at line i) (Some n)
+is_small line i n = eqb (unwrap_or (small_at line i) no_number) n
 
 -- whether field i is these five words
 abbrev pub is_five : List ℕ → ℕ → List ℕ → Bool

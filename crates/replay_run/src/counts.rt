@@ -1,5 +1,6 @@
 // How many lines of each kind agreed, and which did not.
 ghost use Rattle.std.specs.Prelude.{◌≡◌, OnOk, replicate, slice_index};
+ghost use Rattle.word.specs.Choice.{pick};
 ghost use Rattle.replay_run.specs.Counts.{place, counted, more_at};
 ghost use Rattle.replay_run.specs.declared.counts.Counted.TheVariants.{Differences};
 
@@ -39,7 +40,7 @@ impl Counted {
     ];
 
     // What a line that is right counts as.
-    fn of(kind: Kind, line: &str) -> Counted
+    fn of(kind: Kind, line: &[u8]) -> Counted
         ensures { result ≡ counted kind line.now }
     {
         if is_refused(line) {
@@ -108,7 +109,7 @@ impl Counts {
     }
 
     // A line that is right.
-    pub(crate) fn add_right(&mut self, kind: Kind, line: &str)
+    fn add_right(&mut self, kind: Kind, line: &[u8])
         ensures { self.new.of ≡ more_at self.old.of (place (counted kind line.now)) }
     {
         self.add(Counted::of(kind, line));
@@ -123,6 +124,24 @@ impl Counts {
         }
         self.add(Counted::Differences);
         Ok(())
+    }
+
+    // Line n, by whether it is right.
+    pub(crate) fn add_line<W: Write>(
+        &mut self,
+        out: &mut W,
+        n: usize,
+        kind: Kind,
+        line: &[u8],
+        right: bool,
+    ) -> io::Result<()>
+        ensures { OnOk result (self.new.of ≡ more_at self.old.of (place (pick right (counted kind line.now) Differences))) }
+    {
+        if right {
+            self.add_right(kind, line);
+            return Ok(());
+        }
+        self.add_difference(out, n)
     }
 }
 

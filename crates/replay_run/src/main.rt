@@ -15,7 +15,7 @@ use std::io::{BufWriter, Write};
 // A list has fewer bytes than are read of it.
 fn main(rt: HostRuntime) -> io::Result<()> {
     let mut out = BufWriter::new(rt.alloc(), io::writer(&rt))?;
-    let text = file_text(&rt, &mut out, "replay.txt")?;
+    let text = file_text(&rt, &mut out, b"replay.txt")?;
     if text.len() == MOST_TEXT {
         writeln!(out, "the list is too long")?;
         return out.flush();

@@ -21,22 +21,24 @@ fn table_lent(lent: &Option<Words>) -> &[u32]
 }
 
 // How many lines of each kind agree.
-pub(crate) fn replay<W: Write>(out: &mut W, text: &str) -> io::Result<Counts> {
+pub(crate) fn replay<W: Write>(out: &mut W, text: &[u8]) -> io::Result<Counts> {
     let mut counts = Counts::none();
     let mut h = Hasher::new(Flags::new());
     let mut lent = None;
-    for (before, line) in text.lines().enumerate() {
+    let pieces = text.split_inclusive(|b| *b == b'\n');
+    for (before, piece) in pieces.enumerate() {
         let n = before.saturating_add(1);
+        let line = match piece {
+            [line @ .., b'\n'] => line,
+            _ => piece,
+        };
         let Some(kind) = line_kind(line) else {
             counts.add_difference(out, n)?;
             continue;
         };
         lent = lent_after(lent, kind, line);
-        if is_right(&mut h, kind, line, table_lent(&lent)) {
-            counts.add_right(kind, line);
-        } else {
-            counts.add_difference(out, n)?;
-        }
+        let right = is_right(&mut h, kind, line, table_lent(&lent));
+        counts.add_line(out, n, kind, line, right)?;
     }
     Ok(counts)
 }

@@ -5,12 +5,12 @@ ghost use Rattle.loan.specs.Loan.{loan_of, loan_in};
 ghost use Rattle.replay_line.specs.Fields.{word_list, small_at};
 ghost use Rattle.replay_run.specs.Turns.{lent_after, table_line, block_line, fresh_line, reset_line};
 
-use crate::agreed::{is_answered, is_checked, is_ended, is_updated};
+use crate::agreed::{both_updated, is_answered, is_checked, is_ended};
 use cases::{flags_of_bits, mode_of_bits};
 use detect::one_block;
 use finish::{finish, finish_and_reset};
 use hasher::{Hasher, reset};
-use in_place::through;
+use in_place::update_in_place;
 use loan::Lent;
 use one_shot::one_shot;
 use replay_line::{Kind, Words, five_at, hex_words, run_at, small_at, word_at};
@@ -19,7 +19,7 @@ use update::update;
 use verdict::DIGEST_SIZE;
 
 // The table lent after a line; none where it can't be read.
-pub(crate) fn lent_after(before: Option<Words>, kind: Kind, line: &str) -> Option<Words>
+pub(crate) fn lent_after(before: Option<Words>, kind: Kind, line: &[u8]) -> Option<Words>
     ensures { result ≡ lent_after before kind line.now }
 {
     match kind {
@@ -29,7 +29,7 @@ pub(crate) fn lent_after(before: Option<Words>, kind: Kind, line: &str) -> Optio
 }
 
 // The check of the table that the line lends.
-fn table_line(line: &str, table: &[u32]) -> bool
+fn table_line(line: &[u8], table: &[u32]) -> bool
     ensures { result ≡ table_line line.now table.now }
 {
     hex_words(line, 1).is_some() && is_checked(line, table_fault(table))
@@ -37,7 +37,7 @@ fn table_line(line: &str, table: &[u32]) -> bool
 
 // A block from five words, under the table, with a mask and flags.
 #[tactic(auto, unfolding(crate::specs::Turns::block_line))]
-fn block_line(line: &str, table: &[u32]) -> Option<bool>
+fn block_line(line: &[u8], table: &[u32]) -> Option<bool>
     ensures { result ≡ block_line line.now table.now }
 {
     let words = five_at(line, 1)?;
@@ -52,7 +52,7 @@ fn block_line(line: &str, table: &[u32]) -> Option<bool>
 }
 
 // A fresh hasher.
-fn fresh_line(h: &mut Hasher, line: &str) -> bool
+fn fresh_line(h: &mut Hasher, line: &[u8]) -> bool
     ensures { fresh_line h.old (small_at line.now 1) result h.new }
 {
     match small_at(line, 1) {
@@ -75,21 +75,19 @@ fn with_masks<'a>(table: &'a [u32], masks: &'a Words) -> Lent<'a>
     }
 }
 
-// Both forms of an update. The one in place gives the next line its hasher.
-fn update_line(h: &mut Hasher, line: &str, table: &[u32]) -> Option<bool> {
+// Both forms of an update. The one in place gives the next line its hasher, refused or not.
+fn update_line(h: &mut Hasher, line: &[u8], table: &[u32]) -> Option<bool> {
     let piece = run_at(line, 1)?;
     let masks = hex_words(line, 2)?;
     let lent = with_masks(table, &masks);
     let by_value = update(*h, piece.as_slice(), lent);
-    let in_place = through(*h, piece.as_slice(), lent);
-    if let Ok(after) = in_place {
-        *h = after;
-    }
-    Some(is_updated(line, by_value) && is_updated(line, in_place))
+    let answer = update_in_place(h, piece.as_slice(), lent);
+    let left = *h;
+    Some(both_updated(line, by_value, answer.map(|_| left)))
 }
 
 // A finish.
-fn finish_line(h: &mut Hasher, line: &str, table: &[u32]) -> Option<bool> {
+fn finish_line(h: &mut Hasher, line: &[u8], table: &[u32]) -> Option<bool> {
     let masks = hex_words(line, 1)?;
     let lent = with_masks(table, &masks);
     let finished = finish(*h, lent);
@@ -104,7 +102,7 @@ fn finish_line(h: &mut Hasher, line: &str, table: &[u32]) -> Option<bool> {
 }
 
 // A finish-and-reset.
-fn finish_reset_line(h: &mut Hasher, line: &str, table: &[u32]) -> Option<bool> {
+fn finish_reset_line(h: &mut Hasher, line: &[u8], table: &[u32]) -> Option<bool> {
     let masks = hex_words(line, 1)?;
     let lent = with_masks(table, &masks);
     let mut digest = [0u8; DIGEST_SIZE];
@@ -117,7 +115,7 @@ fn finish_reset_line(h: &mut Hasher, line: &str, table: &[u32]) -> Option<bool> 
 }
 
 // A whole message at once, in which the hasher has no part.
-fn one_shot_line(line: &str, table: &[u32]) -> Option<bool> {
+fn one_shot_line(line: &[u8], table: &[u32]) -> Option<bool> {
     let message = run_at(line, 1)?;
     let masks = hex_words(line, 2)?;
     let answer = one_shot(message.as_slice(), table, masks.as_slice()).map(|d| {
@@ -142,7 +140,7 @@ fn reset_line(h: &mut Hasher) -> bool
 }
 
 // A line of a kind.
-pub(crate) fn is_right(h: &mut Hasher, kind: Kind, line: &str, table: &[u32]) -> bool {
+pub(crate) fn is_right(h: &mut Hasher, kind: Kind, line: &[u8], table: &[u32]) -> bool {
     let right = match kind {
         Kind::Comment => Some(true),
         Kind::Table => Some(table_line(line, table)),

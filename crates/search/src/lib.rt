@@ -11,7 +11,7 @@ ghost use Rattle.search.specs.Marks.{state_kept, ends_by, marks_by, found_in};
 
 use block::States;
 use sibling::{Ends, recompress_fast_58, recompress_fast_65, sibling_schedule};
-use step::Regs;
+use step::{Regs, same_regs};
 use table::{MASK_BITS, RECORD_WORDS, Testt, test_step};
 
 // What a search found.
@@ -64,7 +64,7 @@ impl<'a> Compressed<'a> {
         ensures { result ≡ marks_by reduced self.entry.start self.entry.schedule.now record.now }
     {
         let ends = self.sibling_ends(record);
-        ends.out == self.states.out || (reduced && ends.start == self.start)
+        same_regs(ends.out, self.states.out) || (reduced && same_regs(ends.start, self.start))
     }
 
     // The first selected record that marks the block, and how many were tried.

@@ -12,8 +12,8 @@ use denote.Param.Members.{Mut, Called}
 use Rattle.std.specs.Prelude.{Option, None, Some, MatchOption, IfSome, IsSomeAnd, IsTrue, option_map}
 use Rattle.std.specs.List.{IsSubsliceAt}
 use Rattle.std.specs.Iterator.Runs.{Run, CallKeepsClosure, AllItemsGive, IsFirstToGive, IsChunksExactRun}
-use Rattle.std.proofs.lemmas.Slice.Eq.{bytes_eq-Decides}
-use Rattle.std.specs.Str.{bytes_eq}
+use Rattle.octets.specs.Octets.{same_bytes}
+use Rattle.octets.proofs.Same.{same-exactly}
 use Rattle.sheet.specs.Sheet.{barcode_size, record_size, records_on, barcode_at, record_found}
 use Rattle.sheet.proofs.Exactly.{first-record, no_record}
 
@@ -52,17 +52,17 @@ module _ {S F : Type 0} {steps : S → Option (Bor (List ℕ)) → S → Type 0}
 
 -- the test whether a record has a barcode
 abbrev pub has_code : List ℕ → List ℕ → Bool
-has_code code r = bytes_eq (take barcode_size r) code
+has_code code r = same_bytes (take barcode_size r) code
 
 module _ (s c : List ℕ) where
   coded : (k : ℕ) → take barcode_size (take record_size (drop (record_size * k) s)) ≡ barcode_at s k
   coded k = take-take barcode_size record_size (drop (record_size * k) s) (omega arith)
 
   has : (k : ℕ) → Tells (has_code c) s k true → barcode_at s k ≡ c
-  has k t = sym (coded k) ∙ (bytes_eq-Decides _ c).0 t
+  has k t = sym (coded k) ∙ (same-exactly _ c).0 t
 
   has_not : (k : ℕ) → Tells (has_code c) s k false → barcode_at s k ≡ c → ⊥
-  has_not k t e = true≢false (sym ((bytes_eq-Decides _ c).1 (coded k ∙ e)) ∙ t)
+  has_not k t e = true≢false (sym ((same-exactly _ c).1 (coded k ∙ e)) ∙ t)
 
   pub found-by : (r : Option ℕ) → FirstToPass (has_code c) s r → r ≡ record_found s c
   found-by None h = rw (le-ltb _ _ ((no_record s c).1 (λ j l. has_not j (h j l))))

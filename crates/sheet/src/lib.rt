@@ -5,6 +5,7 @@
 ghost use Rattle.std.specs.Prelude.{◌≡◌};
 ghost use Rattle.sheet.specs.Sheet.{record_found, lookup_refusal, digest_from, part_from, part_of, place_in};
 
+use octets::same_bytes;
 use refusal::Refusal;
 use verdict::DIGEST_SIZE;
 
@@ -19,7 +20,7 @@ fn first_with(sheet: &[u8], code: &[u8]) -> Option<usize>
 {
     sheet
         .chunks_exact(RECORD_SIZE)
-        .position(|record| &record[..BARCODE_SIZE] == code)
+        .position(|record| same_bytes(&record[..BARCODE_SIZE], code))
 }
 
 // What a lookup of this barcode on this sheet refuses.

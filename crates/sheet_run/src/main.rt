@@ -4,7 +4,7 @@
 #![tactic(auto)]
 
 use cases::{
-    each_case, field, file_filling, file_text, flags_of_bits, from_field, front, number_at,
+    each_line, field, file_filling, file_text, flags_of_bits, from_field, front, number_at,
 };
 use comparison::{Comparison, compare};
 use loan::Lent;
@@ -24,16 +24,17 @@ const MOST_MESSAGE: usize = 320;
 const SHEET: usize = 64;
 
 // The sheet is the front of field 3.
-fn sheet_of(line: &str) -> &[u8] {
-    front(field(line, 3).as_bytes(), number_at(line, 2))
+fn sheet_of(line: &[u8]) -> &[u8] {
+    front(field(line, 3), number_at(line, 2))
 }
 
 // The number of a lookup, and the part that it hands back.
-fn look<W: Write>(out: &mut W, line: &str) -> io::Result<()> {
+fn look<W: Write>(out: &mut W, line: &[u8]) -> io::Result<()> {
     let records = sheet_of(line);
-    let code = field(line, 1).as_bytes();
+    let code = field(line, 1);
     let refused = number_of(lookup_refusal(records, code));
-    write!(out, "{}: {refused} [", from_field(line, 4))?;
+    out.write_all(from_field(line, 4))?;
+    write!(out, ": {refused} [")?;
     out.write_all(lookup(records, code))?;
     writeln!(out, "]")
 }
@@ -59,14 +60,15 @@ fn say_compared<W: Write>(out: &mut W, answer: Result<Comparison, Refusal>) -> i
 }
 
 // The answer of a comparison.
-fn hold<W: Write>(out: &mut W, line: &str) -> io::Result<()> {
+fn hold<W: Write>(out: &mut W, line: &[u8]) -> io::Result<()> {
     let answer = compare(
         sheet_of(line),
-        field(line, 1).as_bytes(),
+        field(line, 1),
         verdict_of(number_at(line, 4)),
-        digest_of(field(line, 5).as_bytes()),
+        digest_of(field(line, 5)),
     );
-    write!(out, "{}: ", from_field(line, 6))?;
+    out.write_all(from_field(line, 6))?;
+    write!(out, ": ")?;
     say_compared(out, answer)
 }
 
@@ -75,7 +77,7 @@ fn hold<W: Write>(out: &mut W, line: &str) -> io::Result<()> {
 fn audit<R: Files + AllocGlobal, W: Write>(
     rt: &R,
     out: &mut W,
-    line: &str,
+    line: &[u8],
     table: &[u32],
 ) -> io::Result<()> {
     let n = number_at(line, 4);
@@ -90,11 +92,12 @@ fn audit<R: Files + AllocGlobal, W: Write>(
     };
     let flags = flags_of_bits(number_at(line, 2));
     let ended = whole(flags, &message, lent);
-    write!(out, "{}: {}", from_field(line, 5), Said(ended))?;
+    out.write_all(from_field(line, 5))?;
+    write!(out, ": {}", Said(ended))?;
     match ended {
         Ok(d) => {
-            let records = file_filling(rt, out, "audit.sheet", SHEET)?;
-            let code = field(line, 1).as_bytes();
+            let records = file_filling(rt, out, b"audit.sheet", SHEET)?;
+            let code = field(line, 1);
             write!(out, ", ")?;
             say_compared(out, compare(&records, code, d.verdict, d.digest))
         }
@@ -102,16 +105,18 @@ fn audit<R: Files + AllocGlobal, W: Write>(
     }
 }
 
+// A case by its letter: any but these begins a comment.
 fn one<R: Files + AllocGlobal, W: Write>(
     rt: &R,
     out: &mut W,
-    line: &str,
+    letter: u8,
+    line: &[u8],
     table: &[u32],
 ) -> io::Result<()> {
-    match field(line, 0) {
-        "l" => look(out, line),
-        "c" => hold(out, line),
-        "a" => audit(rt, out, line, table),
+    match letter {
+        b'l' => look(out, line),
+        b'c' => hold(out, line),
+        b'a' => audit(rt, out, line, table),
         _ => Ok(()),
     }
 }
@@ -119,9 +124,11 @@ fn one<R: Files + AllocGlobal, W: Write>(
 // The cases, with the table of a file.
 fn main(rt: HostRuntime) -> io::Result<()> {
     let mut out = BufWriter::new(rt.alloc(), io::writer(&rt))?;
-    let text = file_text(&rt, &mut out, "cases.txt")?;
-    let bytes = file_filling(&rt, &mut out, "real-table.bin", 4 * MOST_WORDS)?;
+    let text = file_text(&rt, &mut out, b"cases.txt")?;
+    let bytes = file_filling(&rt, &mut out, b"real-table.bin", 4 * MOST_WORDS)?;
     let table = file_words(&bytes);
-    each_case(&text, &mut out, |out, line| one(&rt, out, line, &table))?;
+    each_line(&text, &mut out, |out, letter, line| {
+        one(&rt, out, letter, line, &table)
+    })?;
     out.flush()
 }

@@ -1,5 +1,6 @@
 -- The hasher of one message, once for each way to update it: by value, in place, and on lane 1 of a bench of three.
-use Rattle.std.specs.Prelude.{List, ℕ, replicate}
+use Rattle.std.specs.Prelude.{List, ℕ, eqb, replicate}
+use Rattle.word.specs.Choice.{pick}
 use Rattle.flags.specs.declared.Flags.{Flags}
 use Rattle.loan.specs.Loan.{Loan}
 use Rattle.hasher.specs.Hasher.{fresh_of}
@@ -33,6 +34,10 @@ lanes_finished lanes l = (finished_through lanes 3 1 (replicate digest_size 0xA5
 abbrev pub ways_finished : Ways → Loan → Ways
 ways_finished w l =
     record { value = w.value; place = (finished_reset w.place digest_size l).hasher; lanes = lanes_finished w.lanes l }
+
+-- the call that a letter names: `u` an update, any other a finish
+abbrev pub call_named : ℕ → Call
+call_named letter = pick (eqb letter 0x75) Update Finish
 
 -- the hashers after a call: an update with some bytes, or a finish
 abbrev pub after_call : Call → Ways → List ℕ → Loan → Ways

@@ -5,6 +5,7 @@ ghost use Rattle.std.specs.Prelude.{◌≡◌, ◌<◌, get_or};
 ghost use Rattle.octets.specs.Octets.{be32_at};
 ghost use Rattle.table_file.specs.File.{most_words, file_words, whole_words, file_fault};
 
+use octets::be_word;
 use refusal::Refusal;
 use std::array;
 use table::{MOST_RECORDS, RECORD_WORDS, table_fault};
@@ -25,12 +26,12 @@ fn file_word(bytes: &[u8], i: usize) -> u32
     ensures { result ≡ be32_at bytes.now i }
 {
     let at = 4 * i;
-    u32::from_be_bytes([
+    be_word(
         byte_at(bytes, at),
         byte_at(bytes, at + 1),
         byte_at(bytes, at + 2),
         byte_at(bytes, at + 3),
-    ])
+    )
 }
 
 // The words of a file, with zeros past its end.

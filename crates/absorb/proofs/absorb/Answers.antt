@@ -3,7 +3,6 @@ use Rattle.std.proofs.Common.{◌≡◌, sym, length, drop, ◌+◌, ◌-◌, �
 use Rattle.loan.specs.Loan.{loan_in}
 use Rattle.stream.proofs.Folded.{folded-blocks}
 use Rattle.hasher.specs.Hasher.{chain_of}
-use Rattle.hasher.proofs.Words.{five-is}
 use Rattle.absorb.specs.Absorb.{absorbed, stream_of}
 use Rattle.absorb.proofs.Moves.{advanced-none, advanced-join, stream-long, pend-more, filled, pend-block, pend-full}
 use Rattle.absorb.proofs.absorb.Goals as goal
@@ -15,13 +14,13 @@ returns-then-bytes-fill c =
     let d = c.args.bytes.now in
     let l : length h.pending ≡ 64 = search rules in
     let e = stream-long h.pending d h.fill l c.requires.fill-le in
-    let w : length h.words ≡ 5 = search rules in
     rw (
-      c.copy_from_slice.ensures.after,
+      c.at.ensures,
+      c.store.ensures,
+      c.chain.ensures,
       advanced-none h.flags (loan_in c.args.lent) (chain_of h) (stream_of h d) (omega arith),
-      pend-more h.pending d h.fill l c.requires.fill-le (h.fill + length d - h.fill) (omega arith) c.requires.zeros (omega arith),
+      pend-more h.pending d h.fill l c.requires.fill-le c.requires.zeros (omega arith),
       e,
-      five-is h.words w,
     )
 
 pub returns-then-fill-eq0 : goal.returns-then-fill-eq0
@@ -35,7 +34,7 @@ advance-requires-2-clause-s_bound c =
     let l : length h.pending ≡ 64 = search rules in
     let b = pend-block h.pending d h.fill l c.requires.fill-le (omega arith) in
     let e : c.fold_blocks-filled.result.blocks ≡ h.blocks + 64 / 64 =
-    rw (c.fold_blocks-filled.ensures, c.chain-c.ensures, c.copy_from_slice-2.ensures.after, c.split_at.ensures.front, folded-blocks, b)
+    rw (c.fold_blocks-filled.ensures, c.chain-c.ensures, c.store-2.ensures, c.split_at.ensures.front, folded-blocks, b)
     in
     omega (arith, c.requires.fits, e, c.split_at.ensures.back_len)
 
@@ -52,9 +51,9 @@ returns c =
       c.later.ensures,
       c.fold_blocks-filled.ensures,
       c.chain-c.ensures,
-      c.copy_from_slice-2.ensures.after,
+      c.store-2.ensures,
       c.split_at.ensures.front,
       c.split_at.ensures.back,
-      pend-full h.pending d h.fill l c.requires.fill-le,
+      pend-full h.pending d h.fill l c.requires.fill-le g,
     )
     (sym (advanced-join h.flags (loan_in c.args.lent) (chain_of h) 1 _ (drop (64 - h.fill) d) b))

@@ -1,26 +1,29 @@
--- `fips::tail` meets its contract: what is left to show is that the three pieces are the tail. Assumes nothing.
+-- `fips::tail` meets its contract. Assumes nothing.
 use mathlib.Core.Path.{◌≡◌, sym, ap, ◌∙◌}
+use mathlib.Core.List.{List}
 use Prim.Native.Nat.{ℕ, ◌+◌, ◌-◌, ◌*◌}
 use native.Mathlib.Omega.{arith}
-use borrow.Author.Rules.{rules}
-use lib.ListN.{length, take}
-use lib.Seq.{length-take-le}
+use lib.ListN.{length, take, replicate}
+use lib.Seq.{paste}
 use Rattle.octets.specs.Octets.{bytes64}
-use Rattle.fips.specs.Tail.{padding_bytes, tail_blocks, pad_len, tail_of}
-use Rattle.fips.proofs.Tails.{tail-room, bytes64-length, pieces_put}
+use Rattle.fips.specs.Tail.{padding_bytes, tail_blocks, tail_of}
+use Rattle.fips.proofs.Tails.{tail-room, tail-stored, bytes64-length}
+use borrow.Author.Rules.{rules}
 use Rattle.fips.proofs.tail.Goals as goal
 
 pub returns : goal.returns
-unfolding tail_of bytes64
+unfolding tail_of
 returns c =
     let a = c.args in
     let t = c.tail_blocks.ensures in
     let r = tail-room a.fill c.requires.0 in
-    let e = 64 * c.tail_blocks.result - 8 in
-    let l : length a.pending ≡ 64 = search rules in
-    let w : 64 * tail_blocks a.fill ≡ e + 8 = omega arith in
-    let v : e - a.fill ≡ pad_len a.fill = omega arith in
-    pieces_put _ c.copy_from_slice.new.self c.copy_from_slice-2.new.self c.copy_from_slice-3.new.self (take a.fill a.pending) (take (pad_len a.fill) padding_bytes) (bytes64 (8 * a.bytes))
-    a.fill e (64 * tail_blocks a.fill) (omega arith) w
-    (length-take-le a.fill a.pending (omega arith)) (length-take-le (pad_len a.fill) padding_bytes (omega arith) ∙ sym v) (bytes64-length (8 * a.bytes))
-    c.copy_from_slice.ensures.after (c.copy_from_slice-2.ensures.after ∙ ap (λ (n : ℕ). take n padding_bytes) v) (c.copy_from_slice-3.ensures.after ∙ c.to_be_bytes.ensures)
+    let end = 64 * tail_blocks a.fill - 8 in
+    let lp : length a.pending ≡ 64 = search rules in
+    let w : end + 8 ≡ 64 * tail_blocks a.fill = omega arith in
+    let g : c.store-3.new.out
+    ≡ paste (paste (paste (replicate 128 0) 0 a.pending a.fill) a.fill padding_bytes (end - a.fill)) end (bytes64 (8 * a.bytes)) 8 =
+    rw (c.store-3.ensures, c.store-2.ensures, c.store.ensures, c.bytes_64.ensures, t)
+    in
+    ap (λ (k : ℕ). take k c.store-3.new.out) (sym w)
+    ∙ ap (λ (l : List ℕ). take (end + 8) l) g
+    ∙ tail-stored (replicate 128 0) a.pending padding_bytes (bytes64 (8 * a.bytes)) a.fill end (omega arith) (omega arith) (omega arith) (omega arith) (bytes64-length _)

@@ -9,7 +9,7 @@ use Rattle.program_io.proofs.load.Goals as goal
 -- the file was opened
 pub returns : goal.returns
 returns g c =
-    let f = c.read_file.ensures in
+    let f = c.read_file.ensures.fills in
     record { fits = f.fits; file = record { fd = pos 0; reads = f.reads }; loaded = f.filled }
 
 -- it was not

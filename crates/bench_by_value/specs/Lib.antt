@@ -1,2 +1,1 @@
 pub mod ByValue
-pub mod Handed
